@@ -1,0 +1,45 @@
+-- A job leaves its cluster's list
+use mathlib.Core.Path.{_≡_, refl, sym, ap, _∙_, subst}
+use mathlib.Core.Bool.{Bool, true, false, _&&_}
+use mathlib.Core.List.{List, [], _∷_, _++_}
+use Prim.Native.Nat.{ℕ, _+_, _-_, _<_, _≤_}
+use native.Mathlib.Omega.{arith}
+use lib.Dec.{eqb}
+use lib.ListN.{length, getD, take, drop}
+use Rattle.std.specs.Holes.{removed}
+use Rattle.std.proofs.shelf.Lists.{take-at, length-take-le}
+use Rattle.std.proofs.shelf.Tests.{and-from, eq-eqb}
+use Rattle.cluster.specs.declared.Entry.{Entry}
+use Rattle.ordered.specs.Ranks.{found}
+use Rattle.order.specs.Urgency.{Lawful}
+use Rattle.cluster.specs.Listing.{has}
+use Rattle.model.specs.Words.{Plan, State, pending}
+use Rattle.model.specs.declared.Condition.the-variants.{Idle}
+use Rattle.model.specs.Rules.{become}
+use Rattle.cluster.specs.Listing.{Listed, tasks-of}
+use Rattle.cluster.proofs.Keep.{listed-leave, found-at, length-removed, length-tasks}
+
+module _ {M : Type 0} (P : Plan M) (law : Lawful (P .order .before)) (s : State M) (t : ℕ) (p : pending P s t ≡ true)
+    (old : List (Entry M)) (used : ℕ) (fits : used ≤ length old) (li : Listed P s (P .cluster t) (take used old)) where
+  here : has (tasks-of (take used old)) t ≡ true
+  here = li .exactly t ∙ and-from (pending P s t) _ p (eq-eqb _ _ refl)
+
+  pub is-found : found (λ e. e .task) t (take used old) < used
+  is-found =
+      let a : found (λ e. e .task) t (take used old) < length (tasks-of (take used old)) = found-at t (take used old) here .0 in
+      let b : length (tasks-of (take used old)) ≡ length (take used old) = length-tasks (take used old) in
+      let c : length (take used old) ≡ used = length-take-le used old fits in
+      omega arith
+
+  pub departs : (i : ℕ) → i ≡ found (λ e. e .task) t (take used old) → (new rest : List (Entry M)) → new ≡ removed (take used old) i ++ rest → Listed P (become s t Idle) (P .cluster t) (take (used - 1) new)
+  departs i e new rest n =
+      let f = found-at t (take used old) here in
+      let l : found (λ e. e .task) t (take used old) < length (tasks-of (take used old)) = f .0 in
+      let li2 : i < length (tasks-of (take used old)) = omega arith in
+      let b : length (tasks-of (take used old)) ≡ length (take used old) = length-tasks (take used old) in
+      let c : length (take used old) ≡ used = length-take-le used old fits in
+      let li3 : i < length (take used old) = omega arith in
+      let d : length (removed (take used old) i) ≡ used - 1 = length-removed (take used old) i li3 ∙ ap (λ n. n - 1) c in
+      let r : take (used - 1) new ≡ removed (take used old) i = ap (take (used - 1)) n ∙ take-at (removed (take used old) i) rest (used - 1) d in
+      subst (Listed P (become s t Idle) (P .cluster t)) (sym r)
+      (listed-leave P law s (P .cluster t) t i (take used old) li li2 (ap (λ j. getD (tasks-of (take used old)) j 0) e ∙ f .1))

@@ -1,0 +1,11 @@
+pub mod Lines
+pub mod Line
+pub mod Bridge
+pub mod Keep
+pub mod Choose
+pub mod Bits
+pub mod Whole
+pub mod Loops
+pub mod Departs
+pub mod Parting
+pub mod Moves

@@ -1,0 +1,5 @@
+pub mod Numbers
+pub mod Tally
+pub mod Words
+pub mod Rules
+pub mod Promise

@@ -1,0 +1,2 @@
+pub mod Urgency
+pub mod Supplied

@@ -1,0 +1,5 @@
+pub mod Firsts
+pub mod Shifts
+pub mod Sortedness
+pub mod Counts
+pub mod Held
