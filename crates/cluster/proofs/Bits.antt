@@ -2,13 +2,13 @@
 use mathlib.Core.Path.{_≡_, refl, sym, ap, _∙_, subst}
 use mathlib.Core.Bool.{Bool, true, false, cond, not, _&&_, _||_}
 use mathlib.Core.Logic.{_⊎_, inl, inr, ⊎-elim}
-use Prim.Native.Nat.{ℕ, zero, suc, _+_, _-_, _*_, _<_, _≤_, _^_}
+use Prim.Native.Nat.{ℕ, zero, suc, _+_, _-_, _*_, _/_, _%_, _<_, _≤_, _^_}
 use native.Mathlib.Omega.{arith}
-use native.Mathlib.Nat.{pow-suc}
+use native.Mathlib.Nat.{pow-suc, mul-assoc, mul-add-div-right, mul-add-mod-self-right}
 use lib.Dec.{eqb, ltb}
 use lib.Bits.{bitOr, or-block, or-zero-r}
 use Rattle.std.proofs.shelf.Tests.{cases-bool, cases-eq, eq-eqb, ne-eqb, or-left}
-use Rattle.std.proofs.shelf.Bits.{pow-pos, pow-below}
+use Rattle.std.proofs.shelf.Bits.{pow-pos, pow-below, pow-add, div-mul-add}
 use Rattle.model.proofs.Count.{one}
 use Rattle.model.specs.Words.{members}
 
@@ -74,3 +74,29 @@ members-more (suc n) x p l =
     or-none : (a b : Bool) → b ≡ false → (a || b) ≡ a
     or-none true b e = refl
     or-none false b e = e
+
+-- the bit of t says whether t is a member
+pub members-bit : (n t : ℕ) (p : ℕ → Bool) → t < n → members n p / 2 ^ t % 2 ≡ one (p t)
+members-bit zero t p l = absurd (omega arith)
+members-bit (suc n) t p l =
+    let d : members (suc n) p ≡ one (p n) * 2 ^ n + members n p = ap (λ k. k + members n p) (digit (p n) (2 ^ n)) in
+    ⊎-elim
+    (λ (e : t ≡ n).
+    ap (λ k. members (suc n) p / 2 ^ k % 2) e
+    ∙ (ap (λ k. k / 2 ^ n % 2) d
+    ∙ (ap (λ k. k % 2) (div-mul-add (one (p n)) (2 ^ n) (members n p) (members-lt n p))
+    ∙ (half (p n) ∙ ap (λ k. one (p k)) (sym e)))))
+    (λ (ne : t ≡ n → ⊥).
+    let i : ℕ = n - t - 1 in
+    let s : n ≡ suc i + t = omega arith in
+    let w : 2 ^ n ≡ 2 ^ i * 2 * 2 ^ t = ap (λ k. 2 ^ k) s ∙ (pow-add 2 (suc i) t ∙ ap (λ k. k * 2 ^ t) (pow-suc 2 i)) in
+    let a : one (p n) * 2 ^ n ≡ one (p n) * 2 ^ i * 2 * 2 ^ t = ap (λ k. one (p n) * k) w ∙ (sym (mul-assoc (one (p n)) (2 ^ i * 2) (2 ^ t)) ∙ ap (λ k. k * 2 ^ t) (sym (mul-assoc (one (p n)) (2 ^ i) 2))) in
+    ap (λ k. k / 2 ^ t % 2) (d ∙ ap (λ k. k + members n p) a)
+    ∙ (ap (λ k. k % 2) (mul-add-div-right (pow-pos t) (one (p n) * 2 ^ i * 2) (members n p))
+    ∙ (mul-add-mod-self-right (one (p n) * 2 ^ i) 2 (members n p / 2 ^ t)
+    ∙ members-bit n t p (omega arith))))
+    (cases-eq t n)
+  where
+    half : (b : Bool) → one b % 2 ≡ one b
+    half true = refl
+    half false = refl

@@ -7,6 +7,7 @@ use native.Mathlib.Omega.{arith}
 use lib.Dec.{eqb}
 use lib.ListN.{length, getD, take, drop}
 use Rattle.std.specs.Holes.{removed}
+use Rattle.std.proofs.shelf.Edits.{length-removed}
 use Rattle.std.proofs.shelf.Lists.{take-at, length-take-le}
 use Rattle.std.proofs.shelf.Tests.{and-from, eq-eqb}
 use Rattle.cluster.specs.declared.Entry.{Entry}
@@ -17,7 +18,7 @@ use Rattle.model.specs.Words.{Plan, State, pending}
 use Rattle.model.specs.declared.Condition.the-variants.{Idle}
 use Rattle.model.specs.Rules.{become}
 use Rattle.cluster.specs.Listing.{Listed, tasks-of}
-use Rattle.cluster.proofs.Keep.{listed-leave, found-at, length-removed, length-tasks}
+use Rattle.cluster.proofs.Keep.{listed-leave, found-at, length-tasks}
 
 module _ {M : Type 0} (P : Plan M) (law : Lawful (P .order .before)) (s : State M) (t : ℕ) (p : pending P s t ≡ true)
     (old : List (Entry M)) (used : ℕ) (fits : used ≤ length old) (li : Listed P s (P .cluster t) (take used old)) where
@@ -39,7 +40,8 @@ module _ {M : Type 0} (P : Plan M) (law : Lawful (P .order .before)) (s : State 
       let b : length (tasks-of (take used old)) ≡ length (take used old) = length-tasks (take used old) in
       let c : length (take used old) ≡ used = length-take-le used old fits in
       let li3 : i < length (take used old) = omega arith in
-      let d : length (removed (take used old) i) ≡ used - 1 = length-removed (take used old) i li3 ∙ ap (λ n. n - 1) c in
+      let d0 : length (removed (take used old) i) + 1 ≡ length (take used old) = length-removed (take used old) i li3 in
+      let d : length (removed (take used old) i) ≡ used - 1 = omega arith in
       let r : take (used - 1) new ≡ removed (take used old) i = ap (take (used - 1)) n ∙ take-at (removed (take used old) i) rest (used - 1) d in
       subst (Listed P (become s t Idle) (P .cluster t)) (sym r)
       (listed-leave P law s (P .cluster t) t i (take used old) li li2 (ap (λ j. getD (tasks-of (take used old)) j 0) e ∙ f .1))

@@ -11,7 +11,7 @@ use Rattle.std.specs.Holes.{removed}
 use Rattle.std.proofs.shelf.Tests.{cases-bool, cases-eq, and-parts, and-from, and-left, and-right, or-cases, or-parts, or-left, or-right, both-ways, eqb-true, eqb-false, eq-eqb, ne-eqb, not-from-true, not-from-false, cond-true, cond-false}
 use Rattle.cluster.specs.declared.Entry.{Entry}
 use Rattle.ordered.specs.Ranks.{Ranks, Sorted, Leads, Fresh, ranked, found, first}
-use Rattle.ordered.proofs.Sortedness.{ranked-sorted}
+use Rattle.ordered.proofs.Sortedness.{ranked-sorted, removed-sorted}
 use Rattle.order.specs.Urgency.{Lawful}
 use Rattle.cluster.specs.Listing.{has}
 use Rattle.model.specs.Tally.{tally}
@@ -49,18 +49,6 @@ module _ {M : Type 0} (before : Entry M → Entry M → Bool) where
   marked-ranked mark e [] m ms = (m, tt)
   marked-ranked mark e (x ∷ xs) m ms = elim (before x e) as (λ b. Marked mark (cond b (x ∷ ranked before e xs) (e ∷ x ∷ xs)))
       [ true ↦ (ms .0, marked-ranked mark e xs m (ms .1)) | false ↦ (m, ms) ]
-
-  leads-removed : (x : Entry M) (es : List (Entry M)) (i : ℕ) → Leads before x es → Leads before x (removed es i)
-  leads-removed x [] zero l = tt
-  leads-removed x [] (suc i) l = tt
-  leads-removed x (e ∷ es) zero l = l .1
-  leads-removed x (e ∷ es) (suc i) l = (l .0, leads-removed x es i (l .1))
-
-  sorted-removed : (es : List (Entry M)) (i : ℕ) → Sorted before es → Sorted before (removed es i)
-  sorted-removed [] zero s = tt
-  sorted-removed [] (suc i) s = tt
-  sorted-removed (e ∷ es) zero s = s .1
-  sorted-removed (e ∷ es) (suc i) s = (leads-removed e es i (s .0), sorted-removed es i (s .1))
 
 marked-removed : {M : Type 0} (mark : ℕ → M) (es : List (Entry M)) (i : ℕ) → Marked mark es → Marked mark (removed es i)
 marked-removed mark [] zero s = tt
@@ -176,7 +164,7 @@ module _ {M : Type 0} (P : Plan M) where
         ap (λ ts. has ts u) (tasks-removed es i) ∙ (has-removed (goes P s) (ordered P law s .never) (ordered P law s .carries) (tasks-of es) i u (line P s law k es li .sorted) l
         ∙ ap (λ v. not (eqb u v) && has (tasks-of es) u) at') in
         record {
-          sorted = sorted-removed (urgent (P .order .before)) es i (li .sorted);
+          sorted = removed-sorted (urgent (P .order .before)) es i (li .sorted);
           exactly = λ u. h u ∙ ⊎-elim
               (λ (e : u ≡ t). and-left (not (eqb u t)) _ (not-from-true (eqb u t) (eq-eqb u t e)) ∙ sym (and-left (pending P z u) _ (ap (pending P z) e ∙ no')))
               (λ (ne : u ≡ t → ⊥). ap (λ b. not b && has (tasks-of es) u) (ne-eqb u t ne) ∙ (li .exactly u ∙ ap (λ b. b && eqb (P .cluster u) k) (sym (p u ne))))
@@ -221,13 +209,3 @@ module _ {M : Type 0} (P : Plan M) where
       let c : tally (P .tasks) (λ u. pending P s u && eqb (P .cluster u) k) ≡ length (tasks-of es) = count-is P s law k es li in
       let d : length (tasks-of es) ≡ length es = length-tasks es in
       omega arith
-
-pub length-ranked : {E : Type 0} (before : E → E → Bool) (e : E) (es : List E) → length (ranked before e es) ≡ length es + 1
-length-ranked before e [] = refl
-length-ranked before e (x ∷ xs) = let r : length (ranked before e xs) ≡ length xs + 1 = length-ranked before e xs in
-    elim (before x e) as (λ b. length (cond b (x ∷ ranked before e xs) (e ∷ x ∷ xs)) ≡ length (x ∷ xs) + 1) [ true ↦ omega arith | false ↦ omega arith ]
-
-pub length-removed : {E : Type 0} (es : List E) (i : ℕ) → i < length es → length (removed es i) ≡ length es - 1
-length-removed [] i l = absurd (omega arith)
-length-removed (e ∷ es) zero l = omega arith
-length-removed (e ∷ es) (suc i) l = let r : length (removed es i) ≡ length es - 1 = length-removed es i (omega arith) in let s : length (removed (e ∷ es) (suc i)) ≡ suc (length (removed es i)) = refl in omega arith

@@ -6,24 +6,26 @@ use mathlib.Core.Logic.{⊎-elim}
 use Prim.Native.Nat.{ℕ, zero, suc, _+_, _-_, _<_, _≤_}
 use native.Mathlib.Omega.{arith}
 use lib.Dec.{eqb, ltb, leb}
-use lib.ListN.{length, take, drop}
+use lib.ListN.{length, take, drop, length-drop, length-append}
 use borrow.Rule.Slice.PartMut.{putMid}
 use Rattle.std.specs.declared.option.Option.{Option}
 use Rattle.std.specs.declared.option.Option.the-variants.{Some, None}
 use Rattle.std.specs.Finite.{nth}
 use Rattle.std.specs.Holes.{removed}
 use Rattle.std.proofs.shelf.Lists.{take-at, take-all, length-take-le}
-use Rattle.std.proofs.shelf.Tests.{cases-bool, cases-lt, ltb-true, leb-true, lt-ltb, cond-true, cond-false, and-from, and-parts, le-leb}
+use Rattle.std.proofs.shelf.Tests.{cases-bool, cases-lt, ltb-true, leb-true, lt-ltb, le-ltb, cond-true, cond-false, and-from, and-parts, le-leb}
+use Rattle.std.proofs.shelf.Edits.{length-removed}
+use Rattle.ordered.proofs.Fronts.{length-ranked}
 use Rattle.order.specs.Urgency.{Lawful}
 use Rattle.ordered.specs.Ranks.{ranked, found}
-use Rattle.ordered.specs.Places.{held, taken}
+use Rattle.ordered.specs.Places.{held, taken, closed}
 use Rattle.model.specs.declared.Condition.the-variants.{Idle}
 use Rattle.model.specs.Words.{Plan, State, pending}
 use Rattle.model.specs.Rules.{arrive, become}
 use Rattle.cluster.specs.declared.Entry.{Entry}
 use Rattle.cluster.specs.Listing.{Listed, urgent, part, with-part, fits, entered, entered-count, departed, departed-count}
 use Rattle.cluster.specs.Claims.{ListedOnArrival, ListedOnLeaving, Entering, Departing}
-use Rattle.cluster.proofs.Keep.{listed-arrive, length-ranked, room}
+use Rattle.cluster.proofs.Keep.{listed-arrive, room}
 use Rattle.cluster.proofs.Parting.{written, here, elsewhere, part-length}
 use Rattle.cluster.proofs.Departs.{is-found, departs}
 
@@ -114,3 +116,29 @@ untaken used at ys n z e = ⊎-elim
     absurd (readable ys at (omega arith) (sym (e ∙ cond-true (held used at ys) (nth ys at) None h))))
     (λ (h : held used at ys ≡ false). sym (cond-false (held used at ys) n z h))
     (cases-bool (held used at ys))
+
+-- neither changes how many places there are
+pub length-entered : {M : Type 0} (before : M → ℕ → M → ℕ → Bool) (used : ℕ) (e : Entry M) (es : List (Entry M)) → length (entered before used e es) ≡ length es
+length-entered before used e es = ⊎-elim
+    (λ (l : used < length es).
+    let a : length (ranked (urgent before) e (take used es)) ≡ length (take used es) + 1 = length-ranked (urgent before) e (take used es) in
+    let b : length (take used es) ≡ used = length-take-le used es (omega arith) in
+    let d : length (drop (used + 1) es) ≡ length es - (used + 1) = length-drop (used + 1) es in
+    let f : length (ranked (urgent before) e (take used es) ++ drop (used + 1) es) ≡ length (ranked (urgent before) e (take used es)) + length (drop (used + 1) es) = length-append (ranked (urgent before) e (take used es)) (drop (used + 1) es) in
+    ap length (cond-true (ltb used (length es)) _ es (lt-ltb used (length es) l)) ∙ (f ∙ omega arith))
+    (λ (l : length es ≤ used). ap length (cond-false (ltb used (length es)) _ es (le-ltb used (length es) l)))
+    (cases-lt used (length es))
+
+pub length-closed : {A : Type 0} (used at : ℕ) (es : List A) → length (closed used at es) ≡ length es
+length-closed used at es = ⊎-elim
+    (λ (h : held used at es ≡ true).
+    let p = and-parts (ltb at used) _ h in
+    let a : at < used = ltb-true at used (p .0) in
+    let b : used ≤ length es = leb-true used (length es) (p .1) in
+    let c : length (take used es) ≡ used = length-take-le used es b in
+    let d : length (removed (take used es) at) + 1 ≡ length (take used es) = length-removed (take used es) at (omega arith) in
+    let e : length (drop (used - 1) es) ≡ length es - (used - 1) = length-drop (used - 1) es in
+    let f : length (removed (take used es) at ++ drop (used - 1) es) ≡ length (removed (take used es) at) + length (drop (used - 1) es) = length-append (removed (take used es) at) (drop (used - 1) es) in
+    ap length (cond-true (held used at es) _ es h) ∙ (f ∙ omega arith))
+    (λ (h : held used at es ≡ false). ap length (cond-false (held used at es) _ es h))
+    (cases-bool (held used at es))

@@ -15,12 +15,12 @@ use Rattle.std.proofs.shelf.Tests.{cases-order, cond-true, le-leb}
 use Rattle.cluster.specs.Listing.{part, with-part, fits}
 use Rattle.cluster.specs.Claims.{Apart}
 
-same-part : {A : Type 0} (xs ys : List A) (a n from room : ℕ) → from + room ≤ length xs → length ys ≡ room → Apart a n from room → part a n (putMid from room xs ys) ≡ part a n xs
+pub same-part : {A : Type 0} (xs ys : List A) (a n from room : ℕ) → from + room ≤ length xs → length ys ≡ room → Apart a n from room → part a n (putMid from room xs ys) ≡ part a n xs
 same-part xs ys a n from room fits long (inl l) =
     sym (drop-take a n (putMid from room xs ys)) ∙ (ap (drop a) (take-putMid-below from room xs ys (a + n) l (omega arith)) ∙ drop-take a n xs)
 same-part xs ys a n from room fits long (inr l) = ap (take n) (drop-putMid from room xs ys a l (omega arith) long)
 
-this-part : {A : Type 0} (xs ys : List A) (from room : ℕ) → from + room ≤ length xs → length ys ≡ room → part from room (putMid from room xs ys) ≡ ys
+pub this-part : {A : Type 0} (xs ys : List A) (from room : ℕ) → from + room ≤ length xs → length ys ≡ room → part from room (putMid from room xs ys) ≡ ys
 this-part xs ys from room fits long =
     let e : room ≡ from + room - from = omega arith in
     ap (λ n. take n (drop from (putMid from room xs ys))) e ∙ between-putMid from room xs ys (from + room) (omega arith) (long ∙ e)

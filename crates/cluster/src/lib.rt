@@ -1,6 +1,6 @@
 // A cluster: its pending jobs as an ordered list in lent places, and which of them are scheduled.
 ghost use mathlib.Core.Path.{_≡_};
-ghost use lib.ListN.{take};
+ghost use lib.ListN.{set, take};
 ghost use Rattle.std.specs.Finite.{nth};
 ghost use Rattle.cluster.specs.Listing.{urgent, part};
 ghost use Rattle.cluster.specs.Picks.{bit as BitOf, «condition-at» as ConditionAt, «pick-at» as PickAt, «picked-set» as PickedSet};
@@ -52,6 +52,16 @@ pub fn fetch<A: Copy>(xs: &[A], i: u8) -> Option<A>
 {
     let at = usize::from(i);
     if at < xs.len() { Some(xs[at]) } else { None }
+}
+
+/// Stores `a` at `i`, where there is such a place.
+pub fn store<A: Copy>(xs: &mut [A], i: u8, a: A)
+    ensures { λ _. ⌜ now (xs .exit) ≡ set (now (xs .entry)) i a ⌝ }
+{
+    let at = usize::from(i);
+    if at < xs.len() {
+        xs[at] = a;
+    }
 }
 
 // The first n, or all.

@@ -1,9 +1,21 @@
--- The number of each condition and of each refusal.
+-- The number of each condition, each refusal and each kind of event.
 use Prim.Native.Nat.{ℕ}
 use Rattle.model.specs.declared.Condition.{Condition}
 use Rattle.model.specs.declared.Condition.the-variants.{Idle, Computing, Wanting, Waiting, Holding, Done}
+use Rattle.model.specs.declared.Event.{Event}
+use Rattle.model.specs.declared.Event.the-variants.{Release, Finish}
 use Rattle.model.specs.declared.Refusal.{Refusal}
 use Rattle.model.specs.declared.Refusal.the-variants.{ClusterCount, ClusterSize, TaskCount, MemoryTooSmall, ClusterAbsent, ParameterUnfit, NoSuchTask, AlreadyPending, NotPending, NotScheduled, NoSuchCluster}
+
+-- the task whose event it is
+abbrev pub event-task : Event → ℕ
+event-task (Release t i) = t
+event-task (Finish t) = t
+
+-- the number of an event's kind
+abbrev pub event-kind : Event → ℕ
+event-kind (Release t i) = 4
+event-kind (Finish t) = 7
 
 -- the number of a condition
 abbrev pub condition-number : Condition → ℕ

@@ -1,6 +1,6 @@
 ghost use mathlib.Core.Path.{_≡_};
 ghost use Rattle.model.specs.Words.{«is-pending» as PendingIn, holds as HoldsIn, runs as RunsIn};
-ghost use Rattle.model.specs.Numbers.{«condition-number» as ConditionNumber, «refusal-number» as RefusalNumber};
+ghost use Rattle.model.specs.Numbers.{«condition-number» as ConditionNumber, «refusal-number» as RefusalNumber, «event-task» as EventTask, «event-kind» as EventKind};
 
 // What set-up is told of a task.
 #[derive(Clone, Copy)]
@@ -65,6 +65,27 @@ pub enum Refusal {
     NotPending,
     NotScheduled,
     NoSuchCluster,
+}
+
+impl Event {
+    /// The task whose event it is.
+    pub fn task(self) -> u8
+        ensures { λ r. ⌜ r ≡ EventTask self ⌝ }
+    {
+        match self {
+            Event::Release { task, .. } | Event::Finish { task } => task,
+        }
+    }
+
+    /// The number of its kind.
+    pub fn kind(self) -> u8
+        ensures { λ r. ⌜ r ≡ EventKind self ⌝ }
+    {
+        match self {
+            Event::Release { .. } => 4,
+            Event::Finish { .. } => 7,
+        }
+    }
 }
 
 impl Condition {

@@ -75,7 +75,10 @@ mod tests {
 
     #[test]
     fn deadlines() -> Result<(), Fail> {
-        check_eq(EarliestDeadlineOrder::mark(u32::MAX, u32::MAX), 8_589_934_590)?;
+        check_eq(
+            EarliestDeadlineOrder::mark(u32::MAX, u32::MAX),
+            8_589_934_590,
+        )?;
         let soon = EarliestDeadlineOrder::mark(20, 100);
         let same = EarliestDeadlineOrder::mark(70, 50);
         check(EarliestDeadlineOrder::goes_first(soon, 1, same, 2)).note("the lower task")?;

@@ -3,3 +3,4 @@ pub mod Shifts
 pub mod Sortedness
 pub mod Counts
 pub mod Held
+pub mod Fronts

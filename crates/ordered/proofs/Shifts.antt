@@ -1,5 +1,5 @@
 -- What moving the entries of a part by one place leaves: the steps of both loops, and the whole slice after them.
-use mathlib.Core.Path.{_≡_, refl, sym, ap, _∙_}
+use mathlib.Core.Path.{_≡_, sym, ap, _∙_}
 use mathlib.Core.List.{List, [], _∷_, _++_}
 use Prim.Native.Nat.{ℕ, suc, _+_, _-_, _<_, _≤_}
 use native.Mathlib.Numerals.{add-one}
@@ -7,7 +7,7 @@ use native.Mathlib.Omega.{arith}
 use lib.ListN.{length, getD, set, take, drop}
 use borrow.Rule.Slice.PartMut.{putMid}
 use Rattle.std.specs.Holes.{inserted, removed}
-use Rattle.std.proofs.shelf.Lists.{append-assoc, append-nil, take-at, take-all, drop-all, take-more, drop-more, take-more-set, drop-set-lt, set-at, getD-append-right, getD-drop, length-take-le, length-drop, length-append, take-take, drop-drop, drop-append-le, take-append-drop}
+use Rattle.std.proofs.shelf.Lists.{append-assoc, take-at, take-all, drop-all, take-more, drop-more, take-more-set, drop-set-lt, set-at, getD-append-right, getD-drop, length-take-le, length-drop, take-take, drop-drop, drop-append-le, take-append-drop}
 use Rattle.std.proofs.shelf.Parts.{between-is}
 
 module _ {E : Type 0} where

@@ -35,7 +35,11 @@ pub trait Ranking {
 fn front<A>(places: &[A], n: usize) -> &[A]
     ensures { λ r. ⌜ now r ≡ take n (now (places .entry)) ⌝ }
 {
-    if n < places.len() { &places[0..n] } else { places }
+    if n < places.len() {
+        &places[0..n]
+    } else {
+        places
+    }
 }
 
 // How many entries at the front go before `item`.
@@ -75,11 +79,11 @@ fn move_up<A: Copy>(places: &mut [A])
 /// Puts `item` in its place among the first `used`, and gives that place. `None` where no place
 /// is left for it, and then nothing changes.
 pub fn insert<R: Ranking>(places: &mut [R::Item], used: usize, item: R::Item) -> Option<usize>
-    ensures at { λ r. ⌜ r ≡ cond (ltb used (length (now (places .entry)))) (Some (place before item (take used (now (places .entry))))) None ⌝ }
-    ensures after { λ _. ⌜ now (places .exit) ≡ cond (ltb used (length (now (places .entry)))) (ranked before item (take used (now (places .entry))) ++ drop (used + 1) (now (places .entry))) (now (places .entry)) ⌝ }
-    ensures sorted { λ _. ⌜ (Sorted before (take used (now (places .entry))) → Fresh key (key item) (take used (now (places .entry))) → Sorted before (ranked before item (take used (now (places .entry))))) ⌝ }
-    ensures counts { λ _. ⌜ ((p : R·Item → Bool) → passing p (ranked before item (take used (now (places .entry)))) ≡ passing p (item ∷ take used (now (places .entry)))) ⌝ }
-    ensures rank { λ _. ⌜ (Sorted before (take used (now (places .entry))) → Fresh key (key item) (take used (now (places .entry))) → place before item (take used (now (places .entry))) ≡ passing (λ x. before x item) (take used (now (places .entry)))) ⌝ }
+    ensures at { λ r. ⌜ (let xs = now (places .entry) in r ≡ cond (ltb used (length xs)) (Some (place before item (take used xs))) None) ⌝ }
+    ensures after { λ _. ⌜ (let xs = now (places .entry) in now (places .exit) ≡ cond (ltb used (length xs)) (ranked before item (take used xs) ++ drop (used + 1) xs) xs) ⌝ }
+    ensures sorted { λ _. ⌜ (let list = take used (now (places .entry)) in Sorted before list → Fresh key (key item) list → Sorted before (ranked before item list)) ⌝ }
+    ensures counts { λ _. ⌜ (let list = take used (now (places .entry)) in (p : R·Item → Bool) → passing p (ranked before item list) ≡ passing p (item ∷ list)) ⌝ }
+    ensures rank { λ _. ⌜ (let list = take used (now (places .entry)) in Sorted before list → Fresh key (key item) list → place before item list ≡ passing (λ x. before x item) list) ⌝ }
 {
     if used >= places.len() {
         return None;
@@ -94,8 +98,8 @@ pub fn insert<R: Ranking>(places: &mut [R::Item], used: usize, item: R::Item) ->
 pub fn remove_at<R: Ranking>(places: &mut [R::Item], used: usize, at: usize) -> Option<R::Item>
     ensures gives { λ r. ⌜ r ≡ taken used at (now (places .entry)) ⌝ }
     ensures after { λ _. ⌜ now (places .exit) ≡ closed used at (now (places .entry)) ⌝ }
-    ensures sorted { λ _. ⌜ (Sorted before (take used (now (places .entry))) → Sorted before (removed (take used (now (places .entry))) at)) ⌝ }
-    ensures counts { λ r. ⌜ ((p : R·Item → Bool) (x : R·Item) → r ≡ Some x → passing p (x ∷ removed (take used (now (places .entry))) at) ≡ passing p (take used (now (places .entry)))) ⌝ }
+    ensures sorted { λ _. ⌜ (let list = take used (now (places .entry)) in Sorted before list → Sorted before (removed list at)) ⌝ }
+    ensures counts { λ r. ⌜ (let list = take used (now (places .entry)) in (p : R·Item → Bool) (x : R·Item) → r ≡ Some x → passing p (x ∷ removed list at) ≡ passing p list) ⌝ }
 {
     if at >= used || used > places.len() {
         return None;
@@ -105,7 +109,20 @@ pub fn remove_at<R: Ranking>(places: &mut [R::Item], used: usize, at: usize) -> 
     Some(item)
 }
 
-/// The place of the first entry with this key.
+/// Takes out the first entry with this key. `None` where there is none, or `used` is beyond the
+/// slice, and then nothing changes.
+pub fn remove<R: Ranking>(places: &mut [R::Item], used: usize, key: u8) -> Option<R::Item>
+    ensures gives { λ r. ⌜ (let xs = now (places .entry) in r ≡ taken used (found (R·Ranking .key) key (take used xs)) xs) ⌝ }
+    ensures after { λ _. ⌜ (let xs = now (places .entry) in now (places .exit) ≡ closed used (found (R·Ranking .key) key (take used xs)) xs) ⌝ }
+    ensures sorted { λ _. ⌜ (let list = take used (now (places .entry)) in Sorted before list → Sorted before (removed list (found (R·Ranking .key) key list))) ⌝ }
+    ensures counts { λ r. ⌜ (let list = take used (now (places .entry)) in (p : R·Item → Bool) (x : R·Item) → r ≡ Some x → passing p (x ∷ removed list (found (R·Ranking .key) key list)) ≡ passing p list) ⌝ }
+{
+    let at = find::<R>(places, used, key)?;
+    remove_at::<R>(places, used, at)
+}
+
+/// The place of the first entry with this key. `None` where there is none. Where `used` is beyond
+/// the slice, the entries are those that exist.
 pub fn find<R: Ranking>(places: &[R::Item], used: usize, key: u8) -> Option<usize>
     ensures at { λ r. ⌜ r ≡ position (R·Ranking .key) key (take used (now (places .entry))) ⌝ }
     ensures absent { λ r. ⌜ (r ≡ None → Fresh (R·Ranking .key) key (take used (now (places .entry)))) ⌝ }
@@ -119,27 +136,18 @@ pub fn find<R: Ranking>(places: &[R::Item], used: usize, key: u8) -> Option<usiz
     None
 }
 
-/// Takes out the first entry with this key. `None` where there is none, or `used` is beyond the
-/// slice, and then nothing changes.
-pub fn remove<R: Ranking>(places: &mut [R::Item], used: usize, key: u8) -> Option<R::Item>
-    ensures gives { λ r. ⌜ r ≡ taken used (found (R·Ranking .key) key (take used (now (places .entry)))) (now (places .entry)) ⌝ }
-    ensures after { λ _. ⌜ now (places .exit) ≡ closed used (found (R·Ranking .key) key (take used (now (places .entry)))) (now (places .entry)) ⌝ }
-    ensures sorted { λ _. ⌜ (Sorted before (take used (now (places .entry))) → Sorted before (removed (take used (now (places .entry))) (found (R·Ranking .key) key (take used (now (places .entry)))))) ⌝ }
-    ensures counts { λ r. ⌜ ((p : R·Item → Bool) (x : R·Item) → r ≡ Some x → passing p (x ∷ removed (take used (now (places .entry))) (found (R·Ranking .key) key (take used (now (places .entry))))) ≡ passing p (take used (now (places .entry)))) ⌝ }
-{
-    let at = find::<R>(places, used, key)?;
-    remove_at::<R>(places, used, at)
-}
-
-/// The entry at `at`.
+/// The entry at `at`. `None` where there is none.
 pub fn get<R: Ranking>(places: &[R::Item], used: usize, at: usize) -> Option<R::Item>
     ensures gives { λ r. ⌜ r ≡ nth (take used (now (places .entry))) at ⌝ }
-    ensures rank { λ r. ⌜ ((x : R·Item) → Sorted before (take used (now (places .entry))) → r ≡ Some x → passing (λ y. before y x) (take used (now (places .entry))) ≡ at) ⌝ }
+    ensures rank { λ r. ⌜ (let list = take used (now (places .entry)) in (x : R·Item) → r ≡ Some x → Sorted before list → passing (λ y. before y x) list ≡ at) ⌝ }
 {
-    let entries = front(places, used);
-    if at < entries.len() {
-        Some(entries[at])
+    let list = front(places, used);
+    if at < list.len() {
+        Some(list[at])
     } else {
         None
     }
 }
+
+#[cfg(test)]
+mod tests;

@@ -1,3 +1,4 @@
+-- The scan stops at the first entry with the key.
 use mathlib.Core.Path.{_≡_, sym, subst, _∙_}
 use mathlib.Core.List.{List}
 use Prim.Native.Nat.{_≤_}

@@ -1,3 +1,4 @@
+-- Where there are no more than n places, the first n are all of them.
 use mathlib.Core.Path.{sym}
 use Rattle.std.proofs.shelf.Lists.{take-all}
 use Rattle.ordered.proofs.front.Needs as need

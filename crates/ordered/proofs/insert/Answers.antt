@@ -1,3 +1,4 @@
+-- The item comes in at its place and the entries behind it move back, or the list is full.
 use mathlib.Core.Path.{_≡_, refl, sym, ap, _∙_}
 use mathlib.Core.List.{_++_}
 use Prim.Native.Nat.{_+_, _≤_}

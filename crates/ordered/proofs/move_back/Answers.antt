@@ -1,4 +1,5 @@
-use mathlib.Core.Path.{_≡_, sym, ap, _∙_}
+-- Each turn exchanges the hand with one place.
+use mathlib.Core.Path.{sym, ap, _∙_}
 use mathlib.Core.List.{_∷_, _++_}
 use Prim.Native.Nat.{_+_, _<_, _≤_}
 use native.Mathlib.Omega.{arith}

@@ -1,3 +1,4 @@
+-- What carrying the item through the places keeps.
 use mathlib.Core.Path.{_≡_}
 use mathlib.Core.List.{_∷_, _++_}
 use lib.ListN.{take, drop}

@@ -1,3 +1,4 @@
+-- Each turn copies one entry to the place before it.
 use mathlib.Core.Path.{_≡_, sym, ap, _∙_}
 use mathlib.Core.List.{_++_}
 use Prim.Native.Nat.{_+_, _-_, _<_}

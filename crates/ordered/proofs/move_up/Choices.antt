@@ -1,3 +1,4 @@
+-- What moving the entries up keeps.
 use mathlib.Core.Path.{_≡_}
 use mathlib.Core.List.{_++_}
 use Prim.Native.Nat.{_-_}

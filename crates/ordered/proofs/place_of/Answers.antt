@@ -1,3 +1,4 @@
+-- The scan stops at the first entry that does not go before the item.
 use mathlib.Core.Path.{sym, ap, _∙_}
 use mathlib.Core.Bool.{not}
 use native.Mathlib.Omega.{arith}

@@ -1,3 +1,4 @@
+-- What a scan for the place of an item keeps.
 use mathlib.Core.Path.{_≡_}
 use Prim.Native.Nat.{_+_}
 use lib.ListN.{drop}

@@ -1,3 +1,4 @@
+-- The entry with the key is taken out where it is found.
 use mathlib.Core.Path.{_≡_, sym, ap, _∙_}
 use lib.ListN.{take}
 use Rattle.std.proofs.shelf.Tests.{cond-false}

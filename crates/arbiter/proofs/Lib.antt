@@ -1,0 +1,3 @@
+pub mod Replies
+pub mod Stores
+pub mod Steps

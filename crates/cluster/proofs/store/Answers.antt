@@ -1,0 +1,10 @@
+use mathlib.Core.Path.{_≡_}
+use Prim.Native.Nat.{_≤_}
+use native.Mathlib.Omega.{arith}
+use lib.ListN.{length}
+use Rattle.std.proofs.shelf.Lists.{set-past}
+use Rattle.cluster.proofs.store.Needs as need
+
+pub returns-else-at-xs : need.returns-else-at-xs
+returns-else-at-xs g c =
+    let h : length (c .args .xs .now) ≤ c .args .i = omega arith in let e = set-past (c .args .xs .now) (c .args .i) (c .args .a) h in cc
