@@ -1,3 +1,5 @@
 pub mod Replies
 pub mod Stores
 pub mod Steps
+pub mod Starts
+pub mod Scans

@@ -45,7 +45,7 @@ use Rattle.arbiter.proofs.Replies.{turned-away-is, asked-set-is, asked-conditi
 use Rattle.arbiter.proofs.Stores.{shows-become, length-condition, sizes, exist, changed}
 
 -- no test of a table was met: not the first, and none of the others
-passed : (b : Bool) (f : Refusal) (o : Option Refusal) → cond b (Some f) o ≡ None → (b ≡ false) × (o ≡ None)
+pub passed : (b : Bool) (f : Refusal) (o : Option Refusal) → cond b (Some f) o ≡ None → (b ≡ false) × (o ≡ None)
 passed true f o e = let z : _≡_ {A = ℕ} 0 1 = cc in absurd (omega arith)
 passed false f o e = (refl, e)
 

@@ -87,7 +87,7 @@ module _ {Mark : Type 0} (order : Urgency Mark) (y : System) where
       let p = or-parts _ _ e in let q = or-parts _ _ (p .1) in
       (ltb-false _ _ (p .0), ltb-false _ _ (q .0), ltb-false _ _ (q .1))
 
-  suffices : (m : Contents Mark) → task-count y ≤ 64 → task-count y ≤ length (m .jobs) → y .clusters * task-count y ≤ length (m .places) → too-small order y m ≡ false
+  pub suffices : (m : Contents Mark) → task-count y ≤ 64 → task-count y ≤ length (m .jobs) → y .clusters * task-count y ≤ length (m .places) → too-small order y m ≡ false
   suffices m a b c = or-from _ _ (le-ltb _ _ a) (or-from _ _ (le-ltb _ _ b) (le-ltb _ _ c))
 
   -- the places of each cluster's list exist

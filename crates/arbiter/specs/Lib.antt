@@ -1,2 +1,4 @@
 pub mod Memory
 pub mod Meaning
+pub mod SetUp
+pub mod Outcomes

@@ -2,8 +2,10 @@
 ghost use mathlib.Core.Path.{_≡_};
 ghost use mathlib.Core.Bool.{Bool, true, false};
 ghost use Prim.Native.Nat.{ℕ, _*_, _<_, _≤_};
-ghost use lib.ListN.{length, getD, set};
-ghost use Rattle.arbiter.specs.Memory.{contents, «count-at» as CountAt, «cluster-at» as ClusterAt, «parameter-at» as ParameterAt, «task-count» as TaskCountOf, «too-small» as TooSmall, running, «in-set» as InSet, becoming, «with-entry» as WithEntry, «without-entry» as WithoutEntry, «turned-away» as TurnedAway, stored};
+ghost use lib.ListN.{length, replicate};
+ghost use Rattle.arbiter.specs.Memory.{contents, «count-at» as CountAt, «cluster-at» as ClusterAt, «parameter-at» as ParameterAt, «task-count» as TaskCountOf, «too-small» as TooSmall, running, «in-set» as InSet, becoming, «with-entry» as WithEntry, «without-entry» as WithoutEntry, «turned-away» as TurnedAway, stored, replied, afterwards};
+ghost use Rattle.arbiter.specs.SetUp.{absent, unfit, «idle-job» as IdleJob, tables, unaccepted, SetUp};
+ghost use Rattle.arbiter.specs.Meaning.{Acted, AskedSet, AskedCondition};
 ghost use Rattle.std.specs.Finite.{nth};
 ghost use Rattle.model.specs.Rules.{unless};
 ghost use Rattle.cluster.specs.Picks.{«condition-at» as ConditionAt};
@@ -35,6 +37,13 @@ pub struct Arbiter<'a, O: Order> {
     pub counts: [usize; 8],
 }
 
+/// What an event came to: its answer, and each cluster's scheduled tasks after it.
+#[derive(Clone, Copy)]
+pub struct Outcome {
+    pub answer: Result<Answer, Refusal>,
+    pub scheduled: [u64; 8],
+}
+
 impl System<'_> {
     // The cluster of a task.
     fn cluster_of(&self, task: u8) -> u8
@@ -57,7 +66,87 @@ impl System<'_> {
     }
 }
 
+// Whether some task's cluster is not there.
+fn cluster_absent(clusters: u8, tasks: &[Task]) -> bool
+    ensures { λ r. ⌜ r ≡ absent clusters (now (tasks .entry)) ⌝ }
+{
+    for task in tasks {
+        if task.cluster >= clusters {
+            return true;
+        }
+    }
+    false
+}
+
+// Whether some task's parameter does not fit the order.
+fn parameter_unfit<O: Order>(tasks: &[Task]) -> bool
+    ensures { λ r. ⌜ r ≡ unfit (O·Order .urgency .fits) (now (tasks .entry)) ⌝ }
+{
+    for task in tasks {
+        if !O::fits(task.parameter) {
+            return true;
+        }
+    }
+    false
+}
+
+// Makes every record idle.
+fn clear(jobs: &mut [Job])
+    ensures { λ _. ⌜ now (jobs .exit) ≡ replicate (length (now (jobs .entry))) IdleJob ⌝ }
+{
+    for job in jobs.iter_mut() {
+        *job = Job {
+            condition: Condition::Idle,
+            donor: None,
+            recipient: None,
+        };
+    }
+}
+
 impl<O: Order> Arbiter<'_, O> {
+    // Why set-up is turned away: the first test that fails, each over its whole table.
+    fn refuse(&self, clusters: u8, cluster_size: u8, tasks: &[Task]) -> Option<Refusal>
+        ensures { λ r. ⌜ r ≡ unaccepted (O·Order .urgency) (tables clusters «cluster_size» (now (tasks .entry))) (contents (now (self .entry))) ⌝ }
+    {
+        let n = tasks.len();
+        if clusters < 1 || clusters > 8 {
+            return Some(Refusal::ClusterCount);
+        }
+        if cluster_size < 1 || cluster_size > 8 {
+            return Some(Refusal::ClusterSize);
+        }
+        if n < 1 || n > 64 {
+            return Some(Refusal::TaskCount);
+        }
+        if self.jobs.len() < n || self.places.len() < usize::from(clusters) * n {
+            return Some(Refusal::MemoryTooSmall);
+        }
+        if cluster_absent(clusters, tasks) {
+            return Some(Refusal::ClusterAbsent);
+        }
+        if parameter_unfit::<O>(tasks) {
+            return Some(Refusal::ParameterUnfit);
+        }
+        None
+    }
+
+    /// Sets a system up: `clusters` clusters of `cluster_size` processors and a table of tasks.
+    /// Every task is idle then. A refusal changes nothing.
+    pub fn set_up<'t>(&mut self, clusters: u8, cluster_size: u8, tasks: &'t [Task]) -> Result<System<'t>, Refusal>
+        ensures { λ r. ⌜ SetUp (O·Order .urgency) (tables clusters «cluster_size» (now (tasks .entry))) (contents (now (self .entry))) (contents (now (self .exit))) r ⌝ }
+    {
+        if let Some(refusal) = self.refuse(clusters, cluster_size, tasks) {
+            return Err(refusal);
+        }
+        clear(self.jobs);
+        self.counts = [0; 8];
+        Ok(System {
+            clusters,
+            cluster_size,
+            tasks,
+        })
+    }
+
     // Whether there is no record for some task or no place for it in some list.
     fn too_small(&self, system: &System<'_>) -> bool
         ensures { λ r. ⌜ r ≡ TooSmall (O·Order .urgency) (now (system .entry)) (contents (now (self .entry))) ⌝ }
@@ -185,5 +274,62 @@ impl<O: Order> Arbiter<'_, O> {
                 self.depart(system, system.cluster_of(task), task);
             }
         }
+    }
+
+    // One event, tested and then done.
+    fn perform(&mut self, system: &System<'_>, event: Event) -> Result<Answer, Refusal>
+        ensures replies { λ r. ⌜ r ≡ replied (O·Order .urgency) (now (system .entry)) (contents (now (self .entry))) event ⌝ }
+        ensures stores { λ _. ⌜ contents (now (self .exit)) ≡ afterwards (O·Order .urgency) (now (system .entry)) (contents (now (self .entry))) event ⌝ }
+    {
+        self.check(system, event)?;
+        self.apply(system, event);
+        Ok(Answer::Accepted)
+    }
+
+    /// One event. A refused one changes nothing.
+    pub fn act(&mut self, system: &System<'_>, event: Event) -> Result<Answer, Refusal>
+        ensures { λ r. ⌜ Acted (O·Order .urgency) (now (system .entry)) event (contents (now (self .entry))) (contents (now (self .exit))) r ⌝ }
+    {
+        self.perform(system, event)
+    }
+
+    /// The job of a task is released at an instant.
+    pub fn release(&mut self, system: &System<'_>, task: u8, instant: u32) -> Result<Answer, Refusal>
+        ensures { λ r. ⌜ Acted (O·Order .urgency) (now (system .entry)) (Event.Release task instant) (contents (now (self .entry))) (contents (now (self .exit))) r ⌝ }
+    {
+        self.act(system, Event::Release { task, instant })
+    }
+
+    /// The job of a task finishes.
+    pub fn finish(&mut self, system: &System<'_>, task: u8) -> Result<Answer, Refusal>
+        ensures { λ r. ⌜ Acted (O·Order .urgency) (now (system .entry)) (Event.Finish task) (contents (now (self .entry))) (contents (now (self .exit))) r ⌝ }
+    {
+        self.act(system, Event::Finish { task })
+    }
+
+    /// A cluster's scheduled tasks, bit t for task t.
+    pub fn scheduled(&self, system: &System<'_>, cluster: u8) -> Result<u64, Refusal>
+        ensures { λ r. ⌜ AskedSet (O·Order .urgency) (now (system .entry)) cluster (contents (now (self .entry))) r ⌝ }
+    {
+        if self.too_small(system) {
+            return Err(Refusal::MemoryTooSmall);
+        }
+        if cluster >= system.clusters {
+            return Err(Refusal::NoSuchCluster);
+        }
+        Ok(self.running(system, cluster))
+    }
+
+    /// A task's condition.
+    pub fn condition(&self, system: &System<'_>, task: u8) -> Result<Condition, Refusal>
+        ensures { λ r. ⌜ AskedCondition (O·Order .urgency) (now (system .entry)) task (contents (now (self .entry))) r ⌝ }
+    {
+        if self.too_small(system) {
+            return Err(Refusal::MemoryTooSmall);
+        }
+        if usize::from(task) >= system.tasks.len() {
+            return Err(Refusal::NoSuchTask);
+        }
+        Ok(self.condition_of(task))
     }
 }
