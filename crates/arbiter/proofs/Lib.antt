@@ -3,3 +3,4 @@ pub mod Stores
 pub mod Steps
 pub mod Starts
 pub mod Scans
+pub mod Runs

@@ -3,8 +3,9 @@ ghost use mathlib.Core.Path.{_≡_};
 ghost use mathlib.Core.Bool.{Bool, true, false};
 ghost use Prim.Native.Nat.{ℕ, _*_, _<_, _≤_};
 ghost use lib.ListN.{length, replicate};
-ghost use Rattle.arbiter.specs.Memory.{contents, «count-at» as CountAt, «cluster-at» as ClusterAt, «parameter-at» as ParameterAt, «task-count» as TaskCountOf, «too-small» as TooSmall, running, «in-set» as InSet, becoming, «with-entry» as WithEntry, «without-entry» as WithoutEntry, «turned-away» as TurnedAway, stored, replied, afterwards};
+ghost use Rattle.arbiter.specs.Memory.{contents, «count-at» as CountAt, «cluster-at» as ClusterAt, «parameter-at» as ParameterAt, «task-count» as TaskCountOf, «too-small» as TooSmall, running, «in-set» as InSet, becoming, «with-entry» as WithEntry, «without-entry» as WithoutEntry, «turned-away» as TurnedAway, stored, replied, afterwards, «asked-set» as AskedSetOf};
 ghost use Rattle.arbiter.specs.SetUp.{absent, unfit, «idle-job» as IdleJob, tables, unaccepted, SetUp};
+ghost use Rattle.arbiter.specs.Outcomes.{«or-none» as OrNone, sets, outcome as OutcomeOf, Ran};
 ghost use Rattle.arbiter.specs.Meaning.{Acted, AskedSet, AskedCondition};
 ghost use Rattle.std.specs.Finite.{nth};
 ghost use Rattle.model.specs.Rules.{unless};
@@ -331,5 +332,53 @@ impl<O: Order> Arbiter<'_, O> {
             return Err(Refusal::NoSuchTask);
         }
         Ok(self.condition_of(task))
+    }
+
+    // A cluster's scheduled tasks, or none where there is no such cluster.
+    fn set_of(&self, system: &System<'_>, cluster: u8) -> u64
+        ensures { λ r. ⌜ r ≡ OrNone (AskedSetOf (O·Order .urgency) (now (system .entry)) (contents (now (self .entry))) cluster) ⌝ }
+    {
+        match self.scheduled(system, cluster) {
+            Ok(set) => set,
+            Err(_) => 0,
+        }
+    }
+
+    // Each cluster's scheduled tasks.
+    fn sets(&self, system: &System<'_>) -> [u64; 8]
+        ensures { λ r. ⌜ r ≡ sets (O·Order .urgency) (now (system .entry)) (contents (now (self .entry))) ⌝ }
+    {
+        [
+            self.set_of(system, 0),
+            self.set_of(system, 1),
+            self.set_of(system, 2),
+            self.set_of(system, 3),
+            self.set_of(system, 4),
+            self.set_of(system, 5),
+            self.set_of(system, 6),
+            self.set_of(system, 7),
+        ]
+    }
+
+    // One event, and what it came to.
+    fn outcome(&mut self, system: &System<'_>, event: Event) -> Outcome
+        ensures value { λ r. ⌜ r ≡ OutcomeOf (O·Order .urgency) (now (system .entry)) (contents (now (self .entry))) event ⌝ }
+        ensures stores { λ _. ⌜ contents (now (self .exit)) ≡ afterwards (O·Order .urgency) (now (system .entry)) (contents (now (self .entry))) event ⌝ }
+    {
+        let answer = self.act(system, event);
+        let scheduled = self.sets(system);
+        Outcome { answer, scheduled }
+    }
+
+    /// Runs a list of events, as many as there are places for their outcomes, and answers how
+    /// many it ran.
+    pub fn run(&mut self, system: &System<'_>, events: &[Event], outcomes: &mut [Outcome]) -> usize
+        ensures { λ r. ⌜ Ran (O·Order .urgency) (now (system .entry)) (now (events .entry)) (now (outcomes .entry)) (contents (now (self .entry))) (contents (now (self .exit))) (now (outcomes .exit)) r ⌝ }
+    {
+        let n = events.len().min(outcomes.len());
+        for i in 0..n {
+            outcomes[i] = self.outcome(system, events[i]);
+        }
+        n
     }
 }
