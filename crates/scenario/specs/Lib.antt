@@ -1,0 +1,3 @@
+pub mod Format
+pub mod Loading
+pub mod Encoding
