@@ -27,9 +27,9 @@ use Rattle.cluster.specs.Listing.{Listed, part}
 use Rattle.cluster.specs.Picks.{read}
 use Rattle.cluster.proofs.Keep.{listed-none}
 use Rattle.arbiter.specs.declared.System.{System}
-use Rattle.arbiter.specs.Memory.{Contents, count-at, cluster-at, parameter-at, task-count, plan-of}
+use Rattle.arbiter.specs.Memory.{Tables, said, Contents, count-at, cluster-at, parameter-at, task-count, plan-of}
 use Rattle.arbiter.specs.Meaning.{Represents, Reached}
-use Rattle.arbiter.specs.SetUp.{Tables, tables, outside, some-of, absent, unfit, idle-job, unaccepted, cleared, said, told, SetUp}
+use Rattle.arbiter.specs.SetUp.{outside, some-of, absent, unfit, idle-job, unaccepted, cleared, told, SetUp}
 use Rattle.arbiter.proofs.Steps.{passed}
 use Rattle.arbiter.proofs.Stores.{suffices}
 
@@ -86,7 +86,7 @@ module _ {Mark : Type 0} (order : Urgency Mark) (law : Lawful (order .before)) w
       none = all-same (λ z. z) 0 8
 
   -- an answer that was accepted
-  granted : (o : Option Refusal) (x z : Tables) → Ok z ≡ unless o x → (o ≡ None) × (z ≡ x)
+  pub granted : (o : Option Refusal) (x z : Tables) → Ok z ≡ unless o x → (o ≡ None) × (z ≡ x)
   granted None x z e = (refl, cc)
   granted (Some f) x z e = let w : _≡_ {A = ℕ} 0 1 = cc in absurd (omega arith)
 

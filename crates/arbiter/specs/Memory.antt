@@ -54,16 +54,33 @@ parameter-at ts t = read (λ x. x .parameter) 0 (nth ts t)
 abbrev pub task-count : System → ℕ
 task-count y = length (now (y .tasks))
 
--- what the system fixes
-abbrev pub plan-of : {Mark : Type 0} → Urgency Mark → System → Plan Mark
-plan-of order y = record {
-  clusters = y .clusters;
-  size = y .«cluster_size»;
-  tasks = task-count y;
-  cluster = cluster-at (now (y .tasks));
-  parameter = parameter-at (now (y .tasks));
+-- what set-up is given: the count of clusters, the processors of each, and the tasks
+pub record Tables : Type 0 where
+  pub clusters : ℕ
+  pub size : ℕ
+  pub tasks : List Task
+
+abbrev pub tables : ℕ → ℕ → List Task → Tables
+tables clusters size tasks = record { clusters = clusters; size = size; tasks = tasks }
+
+-- what these fix
+abbrev pub plan-by : {Mark : Type 0} → Urgency Mark → Tables → Plan Mark
+plan-by order x = record {
+  clusters = x .clusters;
+  size = x .size;
+  tasks = length (x .tasks);
+  cluster = cluster-at (x .tasks);
+  parameter = parameter-at (x .tasks);
   order = order;
 }
+
+-- the tables that a system was made of
+abbrev pub said : System → Tables
+said y = tables (y .clusters) (y .«cluster_size») (now (y .tasks))
+
+-- what a system fixes
+abbrev pub plan-of : {Mark : Type 0} → Urgency Mark → System → Plan Mark
+plan-of order y = plan-by order (said y)
 
 -- the records with the condition of t changed
 abbrev pub with-condition : Option Job → List Job → ℕ → Condition → List Job

@@ -3,7 +3,6 @@ use mathlib.Core.Path.{_≡_}
 use mathlib.Core.Bool.{Bool, true, false, not, _||_}
 use mathlib.Core.List.{List, [], _∷_}
 use Prim.Native.Nat.{ℕ, _*_}
-use denote.Ref.{now}
 use lib.Dec.{ltb}
 use lib.ListN.{length, replicate}
 use Rattle.std.specs.Vec.{made}
@@ -20,17 +19,8 @@ use Rattle.model.specs.Rules.{first-of, unless, kept-if}
 use Rattle.model.specs.Promise.{Kept}
 use Rattle.cluster.specs.declared.Job.{Job}
 use Rattle.arbiter.specs.declared.System.{System}
-use Rattle.arbiter.specs.Memory.{Contents, plan-of}
+use Rattle.arbiter.specs.Memory.{Tables, said, Contents, plan-of}
 use Rattle.arbiter.specs.Meaning.{Reached}
-
--- what set-up is given: the count of clusters, the processors of each, and the tasks
-pub record Tables : Type 0 where
-  pub clusters : ℕ
-  pub size : ℕ
-  pub tasks : List Task
-
-abbrev pub tables : ℕ → ℕ → List Task → Tables
-tables clusters size tasks = record { clusters = clusters; size = size; tasks = tasks }
 
 -- n is not one of low to high
 abbrev pub outside : ℕ → ℕ → ℕ → Bool
@@ -65,11 +55,7 @@ module _ {Mark : Type 0} (order : Urgency Mark) where
   abbrev pub cleared : Contents Mark → Contents Mark
   cleared m = record { jobs = replicate (length (m .jobs)) idle-job; places = m .places; counts = replicate 8 0 }
 
--- what a system says
-abbrev pub said : System → Tables
-said y = tables (y .clusters) (y .«cluster_size») (now (y .tasks))
-
--- the same of set-up's answer
+-- what the system in set-up's answer says
 abbrev pub told : Result System Refusal → Result Tables Refusal
 told (Ok y) = Ok (said y)
 told (Err f) = Err f

@@ -5,7 +5,7 @@ ghost use Rattle.std.specs.declared.option.Option.the-variants.{Some};
 ghost use Rattle.std.specs.Of.String.{string-bytes};
 ghost use Rattle.std.specs.Vec.{made};
 ghost use Rattle.std.specs.Written.{decimal};
-ghost use Rattle.report.specs.Text.{answer-text, comma, tasks-below, set-bytes, sets-bytes, line-bytes, lines-bytes, head-bytes, stop-bytes};
+ghost use Rattle.report.specs.Text.{answer-text, comma, set-bytes, sets-bytes, line-bytes, lines-bytes, head-bytes, stop-bytes};
 use arbiter::Outcome;
 use model::Answer;
 use model::Event;

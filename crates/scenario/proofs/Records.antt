@@ -1,17 +1,16 @@
 -- A record that is read lies within its bytes, has at least two of them, and what follows it is the rest.
 use Prim.Native.Nat.{ℕ, _+_, _-_, _≤_, _<_}
-use mathlib.Core.Path.{_≡_, refl, sym, ap, _∙_}
-use mathlib.Core.List.{List, [], _∷_}
+use mathlib.Core.Path.{_≡_, refl, ap, _∙_}
+use mathlib.Core.List.{List}
 use mathlib.Core.Logic.{inl, inr}
 use mathlib.Core.Bool.{Bool, true, false, cond}
 use native.Mathlib.Omega.{arith}
-use borrow.Author.Needs.{needs}
-use lib.Dec.{ltb, leb, eqb}
+use lib.Dec.{ltb, eqb}
 use lib.ListN.{length, getD, drop, take, length-drop}
 use Rattle.std.proofs.shelf.Ways.{tells}
 use Rattle.std.proofs.shelf.Tests.{cases-lt, le-leb, lt-leb, ltb-false, eqb-false}
 use Rattle.std.proofs.shelf.Lists.{length-take-le}
-use Rattle.std.specs.declared.option.Option.the-variants.{Some, None}
+use Rattle.std.specs.declared.option.Option.the-variants.{Some}
 use Rattle.std.specs.declared.result.Result.{Result}
 use Rattle.std.specs.declared.result.Result.the-variants.{Ok, Err}
 use Rattle.scenario.specs.declared.Record.{Record}
@@ -26,7 +25,8 @@ pub record Whole (s : List ℕ) (v : Record) (t : List ℕ) : Type 0 where
   pub rest : t ≡ drop (span (getD s 0 0)) s
   pub value : v ≡ meaning s
 
-pub long : (k : ℕ) → (span k ≡ 0 → ⊥) → 2 ≤ span k
+-- a known kind has at least two bytes
+long : (k : ℕ) → (span k ≡ 0 → ⊥) → 2 ≤ span k
 long k h = grind (arith, tells)
 
 -- what passed two tests passed both
@@ -35,6 +35,7 @@ passed true d x y a w e = let z : _≡_ {A = ℕ} 0 1 = cc in absurd (omega arit
 passed false true x y a w e = let z : _≡_ {A = ℕ} 0 1 = cc in absurd (omega arith)
 passed false false x y a w e = (refl, refl, cc)
 
+-- a record that is read is whole
 pub whole : (s : List ℕ) (v : Record) (t : List ℕ) → Ok (v, t) ≡ record-at s → Whole s v t
 whole s v t e =
     let n : ℕ = span (getD s 0 0) in

@@ -6,12 +6,12 @@ use native.Mathlib.Nat.{div-div-eq-div-mul, mod-eq-of-lt, add-zero}
 use native.Mathlib.Omega.{arith}
 use mathlib.Core.Bool.{false}
 use lib.Dec.{eqb, lit<}
-use lib.ListN.{length, getD, take, drop, length-drop, length-append}
+use lib.ListN.{length, drop, length-drop, length-append}
 use Rattle.std.specs.shelf.Lists.{All, joined}
 use Rattle.std.proofs.shelf.Lists.{take-at, drop-at, drop-drop}
 use Rattle.std.proofs.shelf.Tests.{le-ltb, le-leb, ne-eqb}
 use Rattle.std.specs.declared.option.Option.the-variants.{Some, None}
-use Rattle.std.specs.declared.result.Result.the-variants.{Ok, Err}
+use Rattle.std.specs.declared.result.Result.the-variants.{Ok}
 use Rattle.model.specs.declared.Task.{Task as Task-of}
 use Rattle.model.specs.declared.Event.{Event as Event-of}
 use Rattle.model.specs.declared.Event.the-variants.{Release, Finish}
@@ -20,7 +20,7 @@ use Rattle.scenario.specs.declared.Record.{Record}
 use Rattle.scenario.specs.declared.Record.the-variants.{Header, Task, Event}
 use Rattle.scenario.specs.Format.{record-at, next-at}
 use Rattle.scenario.specs.Loading.{Loaded, blank, misplaced-in, with-record, followed, placed, ended, loaded-from, loaded}
-use Rattle.scenario.specs.Encoding.{word-bytes, encode-header, encode-task, encode-event, encode, Task-fits, Event-fits, scenario, Reads-back}
+use Rattle.scenario.specs.Encoding.{encode-header, encode-task, encode-event, encode, Task-fits, Event-fits, scenario, Reads-back}
 use Rattle.scenario.proofs.Records.{whole, read, read-long}
 use Rattle.scenario.proofs.Onward.{one}
 

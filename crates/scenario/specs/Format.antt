@@ -1,6 +1,6 @@
 -- The records of a scenario file: the kind byte, then a body whose length the kind fixes.
 use Prim.Native.Nat.{ℕ, _+_, _*_}
-use mathlib.Core.List.{List, [], _∷_}
+use mathlib.Core.List.{List}
 use mathlib.Core.Bool.{cond}
 use lib.Dec.{ltb, leb, eqb}
 use lib.ListN.{length, getD, drop, take}

@@ -1,10 +1,11 @@
+-- Each turn takes one step of the loading, and each return has its end.
 use Prim.Native.Nat.{ℕ}
 use mathlib.Core.List.{List}
 use mathlib.Core.Path.{_≡_, sym, ap, _∙_}
 use Rattle.std.specs.declared.option.Option.the-variants.{None}
 use Rattle.std.specs.declared.result.Result.the-variants.{Ok, Err}
 use Rattle.scenario.specs.Format.{part-view}
-use Rattle.scenario.specs.Loading.{Loaded, loaded, stopped, taken}
+use Rattle.scenario.specs.Loading.{Loaded, script-view, loaded}
 use Rattle.scenario.specs.Encoding.{Reads-back}
 use Rattle.scenario.proofs.Onward.{begun, by-read, further, refused}
 use Rattle.scenario.proofs.RoundTrip.{reads-back}
@@ -29,16 +30,11 @@ returns-in-rest c =
 
 pub returns-in-Some-2 : need.returns-in-Some-2
 returns-in-Some-2 c =
-    let v = c .in-Some .part in
-    let e = ap (λ r. part-view (Ok r)) (sym (c .in-Some .is)) ∙ c .in-Ok .ensures tt .part in
-    let m = sym (c .in-Some-2 .is) ∙ c .in-Continue-fault .ensures tt .fault in
-    let a = c .in-Continue-fault .ensures tt .after ∙ ap (taken _ _ (v .record)) (c .in-Some-2 .is) in
-    both _ _ (c .stopped-in-Some-2 .ensures ∙ ap (λ s. stopped s (c .in-Some-2 .fault) (c .loop-read .reader .at)) a ∙ refused (c .loop-read .inv) (v .at, v .bytes .now, v .record) _ e m)
+    let k = c .in-Continue-fault .ensures tt in
+    both (c .args .file .now) (script-view (c .stopped-in-Some-2 .result)) (c .stopped-in-Some-2 .ensures ∙ refused (c .loop-read .inv) (c .in-Ok .read) (c .in-Some .part) (c .in-Continue-fault .field-0) (c .in-Some-2 .fault) (script-view (c .take .last .self)) (c .in-Ok .ensures tt .part) (c .in-Some .is) (k .fault) (c .in-Some-2 .is) (k .after))
 
 pub loop-read-again : need.loop-read-again
 loop-read-again c =
-    let v = c .in-Some .part in
-    let e = ap (λ r. part-view (Ok r)) (sym (c .in-Some .is)) ∙ c .in-Ok .ensures tt .part in
-    let m = sym (c .in-rest-2 .is) ∙ c .in-Continue-fault .ensures tt .fault in
-    let a = c .in-Continue-fault .ensures tt .after ∙ ap (taken _ _ (v .record)) (c .in-rest-2 .is) in
-    further (c .loop-read .inv) (v .at, v .bytes .now, v .record) _ _ _ e m (c .in-Ok .ensures tt .file) (c .in-Ok .ensures tt .place) a
+    let k = c .in-Continue-fault .ensures tt in
+    let r = c .in-Ok .ensures tt in
+    further (c .loop-read .inv) (c .in-Ok .read) (c .in-Some .part) (c .in-Continue-fault .field-0) _ _ (script-view (c .take .last .self)) (r .part) (c .in-Some .is) (k .fault) (c .in-rest-2 .is) (r .file) (r .place) (k .after)

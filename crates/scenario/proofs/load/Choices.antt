@@ -1,3 +1,4 @@
+-- The loop holds that the script so far goes on to the script of the file, with fewer bytes left each turn.
 use Prim.Native.Nat.{_-_}
 use lib.ListN.{length}
 use Rattle.scenario.specs.Loading.{script-view}

@@ -1,3 +1,4 @@
+-- What a pattern names as the rest is what follows the record.
 use borrow.Author.Needs.{needs}
 use Rattle.std.proofs.shelf.Lists.{take-rest}
 use Rattle.scenario.proofs.split.Needs as need

@@ -1,8 +1,8 @@
 use mathlib.Core.Path.{_≡_, refl, sym, ap, _∙_}
 use Rattle.std.specs.declared.option.Option.the-variants.{Some, None}
 use Rattle.model.specs.Rules.{unless, kept-if}
-use Rattle.arbiter.specs.Memory.{contents}
-use Rattle.arbiter.specs.SetUp.{tables, unaccepted, cleared}
+use Rattle.arbiter.specs.Memory.{contents, tables}
+use Rattle.arbiter.specs.SetUp.{unaccepted, cleared}
 use Rattle.arbiter.proofs.Starts.{set-up-all}
 use Rattle.arbiter.proofs.Arbiter.set_up.Needs as need
 

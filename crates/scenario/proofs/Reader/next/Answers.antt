@@ -1,3 +1,4 @@
+-- The part that is returned is the one that stands at the reader's place.
 use mathlib.Core.Path.{refl, ap}
 use native.Mathlib.Omega.{arith}
 use Rattle.scenario.specs.Format.{place-after}
