@@ -15,9 +15,8 @@ use Rattle.model.specs.declared.Event.{Event}
 use Rattle.model.specs.declared.Event.the-variants.{Release, Finish}
 use Rattle.model.specs.declared.Refusal.{Refusal}
 use Rattle.model.specs.declared.Refusal.the-variants.{MemoryTooSmall, NoSuchTask, AlreadyPending, NotPending, NotScheduled, NoSuchCluster}
-use Rattle.model.specs.declared.Call.{Call}
 use Rattle.model.specs.Words.{Plan, State, is-pending, members, pending, scheduled, scheduled-set}
-use Rattle.model.specs.Rules.{after, refusal, unless, scheduled-answer, condition-answer}
+use Rattle.model.specs.Rules.{Call, after, refusal, unless, scheduled-answer, condition-answer}
 use Rattle.model.proofs.Basics.{none-some}
 use Rattle.model.proofs.Count.{one}
 use Rattle.model.proofs.Schedule.{Plain}
@@ -83,15 +82,15 @@ module _ {Mark : Type 0} (order : Urgency Mark) (law : Lawful (order .before)) (
       ∙ ap (λ k. cond (not (ltb t (task-count y))) (Some NoSuchTask) (cond (is-pending k) (Some AlreadyPending) None)) (sym (re .stands .shows .conditions t))
   turned-away-is (Finish t) = enough _ _
       ∙ by-task t (Some NoSuchTask) _ _ (λ l.
-        ap (λ k. cond (not (is-pending k)) (Some NotPending) (cond (not (in-set (running order y m (cluster-at (now (y .tasks)) t)) t)) (Some NotScheduled) None)) (sym (re .stands .shows .conditions t))
-        ∙ ap (λ b. cond (not (pending P s t)) (Some NotPending) (cond (not b) (Some NotScheduled) None)) (in-running t l))
+      ap (λ k. cond (not (is-pending k)) (Some NotPending) (cond (not (in-set (running order y m (cluster-at (now (y .tasks)) t)) t)) (Some NotScheduled) None)) (sym (re .stands .shows .conditions t))
+      ∙ ap (λ b. cond (not (pending P s t)) (Some NotPending) (cond (not b) (Some NotScheduled) None)) (in-running t l))
 
   pub asked-set-is : (k : ℕ) → asked-set order y m k ≡ scheduled-answer P s k
   asked-set-is k = ap (λ o. unless o (running order y m k)) (enough _ _) ∙ ⊎-elim
       (λ (l : k < y .clusters). ap (λ x. unless (cond (not (ltb k (y .clusters))) (Some NoSuchCluster) None) x) (running-is k l))
       (λ (l : y .clusters ≤ k).
-        let e : cond (not (ltb k (y .clusters))) (Some NoSuchCluster) None ≡ Some NoSuchCluster = cond-true _ _ _ (not-from-false _ (le-ltb k (y .clusters) l)) in
-        ap (λ o. unless o (running order y m k)) e ∙ sym (ap (λ o. unless o (scheduled-set P s k)) e))
+      let e : cond (not (ltb k (y .clusters))) (Some NoSuchCluster) None ≡ Some NoSuchCluster = cond-true _ _ _ (not-from-false _ (le-ltb k (y .clusters) l)) in
+      ap (λ o. unless o (running order y m k)) e ∙ sym (ap (λ o. unless o (scheduled-set P s k)) e))
       (cases-lt k (y .clusters))
 
   pub asked-condition-is : (t : ℕ) → asked-condition order y m t ≡ condition-answer P s t

@@ -7,9 +7,7 @@ use lib.ListN.{length, getD, set, take, drop}
 use Rattle.std.proofs.shelf.Lists.{take-more, drop-more, set-at, length-take-le}
 use Rattle.order.specs.Urgency.{Urgency, Lawful}
 use Rattle.model.specs.declared.Event.{Event}
-use Rattle.model.specs.declared.Call.{Call}
-use Rattle.model.specs.declared.Call.the-variants.{Act}
-use Rattle.model.specs.Rules.{after, answer, act, scheduled-answer}
+use Rattle.model.specs.Rules.{Call, Act, after, answer, act, scheduled-answer}
 use Rattle.model.proofs.Runs.{kept}
 use Rattle.arbiter.specs.declared.System.{System}
 use Rattle.arbiter.specs.declared.Outcome.{Outcome}
@@ -51,7 +49,7 @@ module _ {Mark : Type 0} (order : Urgency Mark) (y : System) where
         let n = next m calls at e in
         let a : replied order y m e ≡ answer (plan-of order y) (after (plan-of order y) calls) e = acted order law y e m (afterwards order y m e) (replied order y m e) refl refl .answers calls at in
         let b : sets order y (afterwards order y m e) ≡ eight (λ k. or-none (scheduled-answer (plan-of order y) (act (plan-of order y) (after (plan-of order y) calls) e) k)) =
-            same-eight _ _ (λ k. ap or-none (asked-set-is order law y (afterwards order y m e) (Act e ∷ calls) n k)) in
+        same-eight _ _ (λ k. ap or-none (asked-set-is order law y (afterwards order y m e) (Act e ∷ calls) n k)) in
         let c : written order y (afterwards order y m e) es ≡ outcomes (plan-of order y) (act (plan-of order y) (after (plan-of order y) calls) e) es = written-is es (afterwards order y m e) (Act e ∷ calls) n in
         cc
 
@@ -81,4 +79,4 @@ module _ {Mark : Type 0} (order : Urgency Mark) (y : System) where
         ∙ (set-at (written order y old (take i es)) (getD places i o) (drop (i + 1) places) o i a
         ∙ (sym (append-assoc (written order y old (take i es)) (o ∷ []) (drop (i + 1) places))
         ∙ ap (λ z. z ++ drop (i + 1) places)
-          (ap (λ z. written order y old (take i es) ++ (z ∷ [])) f ∙ (sym (written-more old (take i es) (getD es i d)) ∙ ap (written order y old) (sym (take-more es i d l))))))
+        (ap (λ z. written order y old (take i es) ++ (z ∷ [])) f ∙ (sym (written-more old (take i es) (getD es i d)) ∙ ap (written order y old) (sym (take-more es i d l))))))

@@ -65,7 +65,12 @@ module _ {Mark : Type 0} (order : Urgency Mark) (law : Lawful (order .before)) w
       let n : length (replicate (length (m .jobs)) idle-job) ≡ length (m .jobs) = length-replicate (length (m .jobs)) idle-job in
       record {
         accepted = record {
-          some-cluster = i .0; few-clusters = i .1; some-processor = j .0; few-processors = j .1; some-task = k .0; few-tasks = k .1;
+          some-cluster = i .0;
+          few-clusters = i .1;
+          some-processor = j .0;
+          few-processors = j .1;
+          some-task = k .0;
+          few-tasks = k .1;
           placed = present (y .clusters) (now (y .tasks)) (f .0);
           fitting = fitting (order .fits) (now (y .tasks)) (h .0);
         };

@@ -22,15 +22,11 @@ use Rattle.model.specs.declared.Condition.{Condition}
 use Rattle.model.specs.declared.Condition.the-variants.{Idle, Computing}
 use Rattle.model.specs.declared.Event.{Event}
 use Rattle.model.specs.declared.Event.the-variants.{Release, Finish}
-use Rattle.model.specs.declared.Question.{Question}
-use Rattle.model.specs.declared.Question.the-variants.{ScheduledSet, ConditionOf}
-use Rattle.model.specs.declared.Call.{Call}
-use Rattle.model.specs.declared.Call.the-variants.{Act, Ask}
 use Rattle.model.specs.declared.Answer.{Answer}
 use Rattle.model.specs.declared.Answer.the-variants.{Accepted as Ok-answer}
 use Rattle.model.specs.declared.Refusal.{Refusal}
 use Rattle.model.specs.Words.{Plan, State, is-pending, pending}
-use Rattle.model.specs.Rules.{put, arrive, become, after, refusal, moved, unless, kept-if}
+use Rattle.model.specs.Rules.{Question, ScheduledSet, ConditionOf, Call, Act, Ask, put, arrive, become, after, refusal, moved, unless, kept-if}
 use Rattle.model.specs.Promise.{Accepted}
 use Rattle.model.proofs.Basics.{put-there}
 use Rattle.model.proofs.Runs.{kept}
@@ -93,7 +89,7 @@ module _ {Mark : Type 0} (order : Urgency Mark) (law : Lawful (order .before)) (
         let P = plan-of order y in
         let z : State Mark = arrive s t (e .mark) in
         let came : Listed P z c (take (entered-count used (length old)) (entered (order .before) used e old)) =
-            arrives (order .before) law old used e P s refl (subst (λ n. task-count y ≤ n) (sym old-length) (omega arith)) lt no' (rep .lists c here) in
+        arrives (order .before) law old used e P s refl (subst (λ n. task-count y ≤ n) (sym old-length) (omega arith)) lt no' (rep .lists c here) in
         subst (λ b. Represents order y (record {
           jobs = with-condition (nth (m .jobs) t) (m .jobs) t Computing;
           places = cond b (with-part (c * task-count y) (task-count y) (m .places) (entered (order .before) used e old)) (m .places);
@@ -112,7 +108,7 @@ module _ {Mark : Type 0} (order : Urgency Mark) (law : Lawful (order .before)) (
         let P = plan-of order y in
         let z : State Mark = become s t Idle in
         let gone : Listed P z c (take (departed-count used t old) (departed used t old)) =
-            leaves (order .before) law old used t P s refl (subst (λ n. used ≤ n) (sym old-length) (rep .counted c here)) yes' (rep .lists c here) in
+        leaves (order .before) law old used t P s refl (subst (λ n. used ≤ n) (sym old-length) (rep .counted c here)) yes' (rep .lists c here) in
         subst (λ b. Represents order y (record {
           jobs = with-condition (nth (m .jobs) t) (m .jobs) t Idle;
           places = cond b (with-part (c * task-count y) (task-count y) (m .places) (departed used t old)) (m .places);

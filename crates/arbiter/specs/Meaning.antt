@@ -9,14 +9,10 @@ use Rattle.std.specs.declared.result.Result.{Result}
 use Rattle.order.specs.Urgency.{Urgency}
 use Rattle.model.specs.declared.Condition.{Condition}
 use Rattle.model.specs.declared.Event.{Event}
-use Rattle.model.specs.declared.Question.{Question}
-use Rattle.model.specs.declared.Question.the-variants.{ScheduledSet, ConditionOf}
-use Rattle.model.specs.declared.Call.{Call}
-use Rattle.model.specs.declared.Call.the-variants.{Act, Ask}
 use Rattle.model.specs.declared.Answer.{Answer}
 use Rattle.model.specs.declared.Refusal.{Refusal}
 use Rattle.model.specs.Words.{Plan, State}
-use Rattle.model.specs.Rules.{after, answer, scheduled-answer, condition-answer}
+use Rattle.model.specs.Rules.{Question, ScheduledSet, ConditionOf, Call, Act, Ask, after, answer, scheduled-answer, condition-answer}
 use Rattle.model.specs.Promise.{Accepted, Kept}
 use Rattle.cluster.specs.Listing.{Listed}
 use Rattle.cluster.specs.Claims.{Shows}

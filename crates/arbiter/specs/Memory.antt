@@ -111,10 +111,10 @@ module _ {Mark : Type 0} (order : Urgency Mark) (y : System) where
   -- why an event is turned away
   abbrev pub turned-away : Contents Mark → Event → Option Refusal
   turned-away m (Release t i) = first-of (
-    (too-small m, MemoryTooSmall) ∷ (not (ltb t (task-count y)), NoSuchTask) ∷ (is-pending (condition-at (m .jobs) t), AlreadyPending) ∷ [])
+      (too-small m, MemoryTooSmall) ∷ (not (ltb t (task-count y)), NoSuchTask) ∷ (is-pending (condition-at (m .jobs) t), AlreadyPending) ∷ [])
   turned-away m (Finish t) = first-of (
-    (too-small m, MemoryTooSmall) ∷ (not (ltb t (task-count y)), NoSuchTask) ∷ (not (is-pending (condition-at (m .jobs) t)), NotPending)
-    ∷ (not (in-set (running m (cluster-at (now (y .tasks)) t)) t), NotScheduled) ∷ [])
+      (too-small m, MemoryTooSmall) ∷ (not (ltb t (task-count y)), NoSuchTask) ∷ (not (is-pending (condition-at (m .jobs) t)), NotPending)
+      ∷ (not (in-set (running m (cluster-at (now (y .tasks)) t)) t), NotScheduled) ∷ [])
 
   -- the list of cluster k with an entry more
   abbrev pub with-entry : Contents Mark → ℕ → Entry Mark → Contents Mark

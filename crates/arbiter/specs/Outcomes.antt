@@ -7,11 +7,9 @@ use Rattle.std.specs.declared.result.Result.{Result}
 use Rattle.std.specs.declared.result.Result.the-variants.{Ok, Err}
 use Rattle.order.specs.Urgency.{Urgency}
 use Rattle.model.specs.declared.Event.{Event}
-use Rattle.model.specs.declared.Call.{Call}
-use Rattle.model.specs.declared.Call.the-variants.{Act}
 use Rattle.model.specs.declared.Refusal.{Refusal}
 use Rattle.model.specs.Words.{Plan, State}
-use Rattle.model.specs.Rules.{after, answer, act, scheduled-answer}
+use Rattle.model.specs.Rules.{Call, Act, after, answer, act, scheduled-answer}
 use Rattle.model.specs.Promise.{Kept}
 use Rattle.arbiter.specs.declared.System.{System}
 use Rattle.arbiter.specs.declared.Outcome.{Outcome}

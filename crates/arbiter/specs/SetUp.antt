@@ -47,9 +47,9 @@ module _ {Mark : Type 0} (order : Urgency Mark) where
   -- the first test that fails, each over its whole table
   abbrev pub unaccepted : Tables → Contents Mark → Option Refusal
   unaccepted x m = first-of (
-    (outside 1 8 (x .clusters), ClusterCount) ∷ (outside 1 8 (x .size), ClusterSize) ∷ (outside 1 64 (length (x .tasks)), TaskCount)
-    ∷ (ltb (length (m .jobs)) (length (x .tasks)) || ltb (length (m .places)) (x .clusters * length (x .tasks)), MemoryTooSmall)
-    ∷ (absent (x .clusters) (x .tasks), ClusterAbsent) ∷ (unfit (order .fits) (x .tasks), ParameterUnfit) ∷ [])
+      (outside 1 8 (x .clusters), ClusterCount) ∷ (outside 1 8 (x .size), ClusterSize) ∷ (outside 1 64 (length (x .tasks)), TaskCount)
+      ∷ (ltb (length (m .jobs)) (length (x .tasks)) || ltb (length (m .places)) (x .clusters * length (x .tasks)), MemoryTooSmall)
+      ∷ (absent (x .clusters) (x .tasks), ClusterAbsent) ∷ (unfit (order .fits) (x .tasks), ParameterUnfit) ∷ [])
 
   -- every record idle and every list empty
   abbrev pub cleared : Contents Mark → Contents Mark

@@ -133,7 +133,12 @@ impl<O: Order> Arbiter<'_, O> {
 
     /// Sets a system up: `clusters` clusters of `cluster_size` processors and a table of tasks.
     /// Every task is idle then. A refusal changes nothing.
-    pub fn set_up<'t>(&mut self, clusters: u8, cluster_size: u8, tasks: &'t [Task]) -> Result<System<'t>, Refusal>
+    pub fn set_up<'t>(
+        &mut self,
+        clusters: u8,
+        cluster_size: u8,
+        tasks: &'t [Task],
+    ) -> Result<System<'t>, Refusal>
         ensures { λ r. ⌜ SetUp (O·Order .urgency) (tables clusters «cluster_size» (now (tasks .entry))) (contents (now (self .entry))) (contents (now (self .exit))) r ⌝ }
     {
         if let Some(refusal) = self.refuse(clusters, cluster_size, tasks) {
@@ -254,7 +259,9 @@ impl<O: Order> Arbiter<'_, O> {
             (Condition::Idle, Event::Release { .. }) => Ok(()),
             (_, Event::Release { .. }) => Err(Refusal::AlreadyPending),
             (Condition::Idle, Event::Finish { .. }) => Err(Refusal::NotPending),
-            (_, Event::Finish { .. }) if !self.is_scheduled(system, task) => Err(Refusal::NotScheduled),
+            (_, Event::Finish { .. }) if !self.is_scheduled(system, task) => Err(
+                Refusal::NotScheduled,
+            ),
             (_, Event::Finish { .. }) => Ok(()),
         }
     }
@@ -295,7 +302,12 @@ impl<O: Order> Arbiter<'_, O> {
     }
 
     /// The job of a task is released at an instant.
-    pub fn release(&mut self, system: &System<'_>, task: u8, instant: u32) -> Result<Answer, Refusal>
+    pub fn release(
+        &mut self,
+        system: &System<'_>,
+        task: u8,
+        instant: u32,
+    ) -> Result<Answer, Refusal>
         ensures { λ r. ⌜ Acted (O·Order .urgency) (now (system .entry)) (Event.Release task instant) (contents (now (self .entry))) (contents (now (self .exit))) r ⌝ }
     {
         self.act(system, Event::Release { task, instant })

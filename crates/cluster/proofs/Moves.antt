@@ -39,7 +39,7 @@ module _ {M : Type 0} (before : M → ℕ → M → ℕ → Bool) (law : Lawful 
       let x : entered before used e old ≡ ranked (urgent before) e (take used old) ++ drop (used + 1) old = cond-true (ltb used (length old)) _ _ (lt-ltb used (length old) l) in
       let a : length (ranked (urgent before) e (take used old)) ≡ used + 1 = length-ranked (urgent before) e (take used old) ∙ ap (λ i. i + 1) (length-take-le used old (omega arith)) in
       let y : take (entered-count used (length old)) (entered before used e old) ≡ ranked (urgent (P .order .before)) e (take used old) =
-          ap (λ i. take i (entered before used e old)) n ∙ (ap (take (used + 1)) x ∙ (take-at _ (drop (used + 1) old) (used + 1) a ∙ ap (λ f. ranked (urgent f) e (take used old)) (sym b))) in
+      ap (λ i. take i (entered before used e old)) n ∙ (ap (take (used + 1)) x ∙ (take-at _ (drop (used + 1) old) (used + 1) a ∙ ap (λ f. ranked (urgent f) e (take used old)) (sym b))) in
       subst (Listed P (arrive s (e .task) (e .mark)) (P .cluster (e .task))) (sym y)
       (listed-arrive P good s (P .cluster (e .task)) (e .task) (e .mark) (take used old) li lt refl no'))
       (λ (l : length old ≤ used).

@@ -48,9 +48,9 @@ pub set-holds : {M : Type 0} (before : M → ℕ → M → ℕ → Bool) → Law
 set-holds before law js es size P s k b c few shows tied li =
     let good : Lawful (P .order .before) = subst Lawful (sym b) law in
     let same : pick-at js ≡ pick (s .condition) (s .donor) (s .recipient) =
-        ap (λ f. pick f (donor-at js) (recipient-at js)) (fun-ext (λ t. sym (shows .conditions t)))
-        ∙ (ap (λ f. pick (s .condition) f (recipient-at js)) (fun-ext (λ t. sym (shows .donors t)))
-        ∙ ap (λ f. pick (s .condition) (s .donor) f) (fun-ext (λ t. sym (shows .recipients t)))) in
+    ap (λ f. pick f (donor-at js) (recipient-at js)) (fun-ext (λ t. sym (shows .conditions t)))
+    ∙ (ap (λ f. pick (s .condition) f (recipient-at js)) (fun-ext (λ t. sym (shows .donors t)))
+    ∙ ap (λ f. pick (s .condition) (s .donor) f) (fun-ext (λ t. sym (shows .recipients t)))) in
     let ts = take (P .size) (chosen (pick (s .condition) (s .donor) (s .recipient)) (tasks-of es)) in
     ap (λ f. joined 0 (take size (chosen f (tasks-of es)))) same
     ∙ (ap (λ n. joined 0 (take n (chosen (pick (s .condition) (s .donor) (s .recipient)) (tasks-of es)))) (sym c)

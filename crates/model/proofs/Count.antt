@@ -35,14 +35,14 @@ pub tally-without : (m x : ℕ) (q : ℕ → Bool) → x < m → q x ≡ true �
 tally-without zero x q l h = absurd (omega arith)
 tally-without (suc m) x q l h = ⊎-elim
     (λ (e : m ≡ x).
-      let a : one (q m) ≡ 1 = ap one (ap q e ∙ h) in
-      let b : one (without q x m) ≡ 0 = ap one (without-here q x m e) in
-      let s : tally m q ≡ tally m (without q x) = tally-same m q (without q x) (λ t lt. sym (without-there q x t (λ f. omega arith))) in
-      omega arith)
+    let a : one (q m) ≡ 1 = ap one (ap q e ∙ h) in
+    let b : one (without q x m) ≡ 0 = ap one (without-here q x m e) in
+    let s : tally m q ≡ tally m (without q x) = tally-same m q (without q x) (λ t lt. sym (without-there q x t (λ f. omega arith))) in
+    omega arith)
     (λ (ne : m ≡ x → ⊥).
-      let a : one (without q x m) ≡ one (q m) = ap one (without-there q x m ne) in
-      let r : tally m q ≡ 1 + tally m (without q x) = tally-without m x q (omega arith) h in
-      omega arith)
+    let a : one (without q x m) ≡ one (q m) = ap one (without-there q x m ne) in
+    let r : tally m q ≡ 1 + tally m (without q x) = tally-without m x q (omega arith) h in
+    omega arith)
     (cases-eq m x)
 
 -- what f maps, one to one, from p into q is no more than passes q
@@ -51,17 +51,17 @@ pub tally-into : (n m : ℕ) (p q : ℕ → Bool) (f : ℕ → ℕ) → ((t : �
 tally-into zero m p q f into inj = omega arith
 tally-into (suc n) m p q f into inj = ⊎-elim
     (λ (y : p n ≡ true).
-      let a : one (p n) ≡ 1 = ap one y in
-      let h = into n (omega arith) y in
-      let w : tally m q ≡ 1 + tally m (without q (f n)) = tally-without m (f n) q (h .0) (h .1) in
-      let r : tally n p ≤ tally m (without q (f n)) = tally-into n m p (without q (f n)) f
-          (λ t l pt. let g = into t (omega arith) pt in (g .0, without-there q (f n) (f t) (λ e. let z : t ≡ n = inj t n (omega arith) (omega arith) pt y e in omega arith) ∙ g .1))
-          (λ t u l k. inj t u (omega arith) (omega arith)) in
-      omega arith)
+    let a : one (p n) ≡ 1 = ap one y in
+    let h = into n (omega arith) y in
+    let w : tally m q ≡ 1 + tally m (without q (f n)) = tally-without m (f n) q (h .0) (h .1) in
+    let r : tally n p ≤ tally m (without q (f n)) = tally-into n m p (without q (f n)) f
+    (λ t l pt. let g = into t (omega arith) pt in (g .0, without-there q (f n) (f t) (λ e. let z : t ≡ n = inj t n (omega arith) (omega arith) pt y e in omega arith) ∙ g .1))
+    (λ t u l k. inj t u (omega arith) (omega arith)) in
+    omega arith)
     (λ (no' : p n ≡ false).
-      let a : one (p n) ≡ 0 = ap one no' in
-      let r : tally n p ≤ tally m q = tally-into n m p q f (λ t l. into t (omega arith)) (λ t u l k. inj t u (omega arith) (omega arith)) in
-      omega arith)
+    let a : one (p n) ≡ 0 = ap one no' in
+    let r : tally n p ≤ tally m q = tally-into n m p q f (λ t l. into t (omega arith)) (λ t u l k. inj t u (omega arith) (omega arith)) in
+    omega arith)
     (cases-bool (p n))
 
 pub tally-all : (c : ℕ) → tally c (λ _. true) ≡ c
@@ -73,6 +73,6 @@ pub tally-more : (n x : ℕ) (p q : ℕ → Bool) → x < n → p x ≡ false �
 tally-more n x p q l px qx h =
     let w : tally n q ≡ 1 + tally n (without q x) = tally-without n x q l qx in
     let s : tally n p ≤ tally n (without q x) = tally-into n n p (without q x) (λ t. t)
-        (λ t lt pt. (lt, without-there q x t (λ e. both-ways (p x) px (ap p (sym e) ∙ pt)) ∙ h t lt pt))
-        (λ t u _ _ _ _ e. e) in
+    (λ t lt pt. (lt, without-there q x t (λ e. both-ways (p x) px (ap p (sym e) ∙ pt)) ∙ h t lt pt))
+    (λ t u _ _ _ _ e. e) in
     omega arith

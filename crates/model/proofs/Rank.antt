@@ -28,10 +28,10 @@ module _ (n : ℕ) (cl : ℕ → ℕ) (goes : ℕ → ℕ → Bool) (law : Order
   -- two mates of one rank are one
   pub rank-apart : (P : ℕ → Bool) (t u : ℕ) → t < n → u < n → P t ≡ true → P u ≡ true → cl t ≡ cl u → rank n goes P t ≡ rank n goes P u → t ≡ u
   rank-apart P t u lt lu pt pu k e = ⊎-elim (λ (y : t ≡ u). y)
-    (λ (ne : t ≡ u → ⊥). absurd (⊎-elim
-        (λ (b : goes t u ≡ true). let l : rank n goes P t < rank n goes P u = rank-less P u t lt pt b in omega arith)
-        (λ (b : goes t u ≡ false).
-           let b2 : goes u t ≡ true = law .decides u t (sym k) (λ z. ne (sym z)) ∙ not-from-false (goes t u) b in
-           let l : rank n goes P u < rank n goes P t = rank-less P t u lu pu b2 in omega arith)
-        (cases-bool (goes t u))))
-    (cases-eq t u)
+      (λ (ne : t ≡ u → ⊥). absurd (⊎-elim
+      (λ (b : goes t u ≡ true). let l : rank n goes P t < rank n goes P u = rank-less P u t lt pt b in omega arith)
+      (λ (b : goes t u ≡ false).
+      let b2 : goes u t ≡ true = law .decides u t (sym k) (λ z. ne (sym z)) ∙ not-from-false (goes t u) b in
+      let l : rank n goes P u < rank n goes P t = rank-less P t u lu pu b2 in omega arith)
+      (cases-bool (goes t u))))
+      (cases-eq t u)

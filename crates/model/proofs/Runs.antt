@@ -14,11 +14,9 @@ use Rattle.model.specs.declared.Condition.{Condition}
 use Rattle.model.specs.declared.Condition.the-variants.{Idle, Computing}
 use Rattle.model.specs.declared.Event.{Event}
 use Rattle.model.specs.declared.Event.the-variants.{Release, Finish}
-use Rattle.model.specs.declared.Call.{Call}
-use Rattle.model.specs.declared.Call.the-variants.{Act, Ask}
 use Rattle.model.specs.declared.Refusal.{Refusal}
 use Rattle.model.specs.Words.{Plan, State, is-pending, runs}
-use Rattle.model.specs.Rules.{put, start, refusal, moved, act, after, kept-if}
+use Rattle.model.specs.Rules.{Call, Act, Ask, put, start, refusal, moved, act, after, kept-if}
 use Rattle.model.specs.Promise.{Kept, Promise}
 use Rattle.model.proofs.Basics.{put-here, put-there, by-point}
 use Rattle.model.proofs.Schedule.{Plain, served}

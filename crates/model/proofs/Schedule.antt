@@ -37,11 +37,11 @@ module _ {Mark : Type 0} (P : Plan Mark) (law : Lawful (P .order .before)) (s : 
   pub few-foremost : (k : ℕ) → tally (P .tasks) (λ t. foremost P s t && eqb (P .cluster t) k) ≤ P .size
   few-foremost k =
       let r : tally (P .tasks) (λ t. foremost P s t && eqb (P .cluster t) k) ≤ tally (P .size) (λ _. true) = tally-into (P .tasks) (P .size) _ (λ _. true) (ahead P s)
-          (λ t l h. let a = and-parts (foremost P s t) _ h in (ltb-true _ _ (and-parts (pending P s t) _ (a .0) .1), refl))
-          (λ t u lt lu ht hu e.
-            let a = and-parts (foremost P s t) _ ht in
-            let b = and-parts (foremost P s u) _ hu in
-            rank-apart (P .tasks) (P .cluster) (goes P s) ordered (pending P s) t u lt lu (and-parts (pending P s t) _ (a .0) .0) (and-parts (pending P s u) _ (b .0) .0) (eqb-true _ _ (a .1) ∙ sym (eqb-true _ _ (b .1))) e) in
+      (λ t l h. let a = and-parts (foremost P s t) _ h in (ltb-true _ _ (and-parts (pending P s t) _ (a .0) .1), refl))
+      (λ t u lt lu ht hu e.
+      let a = and-parts (foremost P s t) _ ht in
+      let b = and-parts (foremost P s u) _ hu in
+      rank-apart (P .tasks) (P .cluster) (goes P s) ordered (pending P s) t u lt lu (and-parts (pending P s t) _ (a .0) .0) (and-parts (pending P s u) _ (b .0) .0) (eqb-true _ _ (a .1) ∙ sym (eqb-true _ _ (b .1))) e) in
       let z : tally (P .size) (λ _. true) ≡ P .size = tally-all (P .size) in
       omega arith
 

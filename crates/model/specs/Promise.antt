@@ -5,10 +5,9 @@ use mathlib.Core.List.{List, [], _∷_}
 use Prim.Native.Nat.{ℕ, _<_, _≤_}
 use lib.Dec.{eqb}
 use Rattle.order.specs.Urgency.{Urgency, Lawful}
-use Rattle.model.specs.declared.Call.{Call}
 use Rattle.model.specs.Tally.{tally}
 use Rattle.model.specs.Words.{Plan, State, ready, foremost, scheduled}
-use Rattle.model.specs.Rules.{after}
+use Rattle.model.specs.Rules.{Call, after}
 
 -- the tables that set-up accepts
 pub record Accepted {Mark : Type 0} (P : Plan Mark) : Type 0 where

@@ -11,14 +11,21 @@ use Rattle.model.specs.declared.Condition.{Condition}
 use Rattle.model.specs.declared.Condition.the-variants.{Idle, Computing}
 use Rattle.model.specs.declared.Event.{Event}
 use Rattle.model.specs.declared.Event.the-variants.{Release, Finish}
-use Rattle.model.specs.declared.Question.{Question}
-use Rattle.model.specs.declared.Call.{Call}
-use Rattle.model.specs.declared.Call.the-variants.{Act, Ask}
 use Rattle.model.specs.declared.Answer.{Answer}
 use Rattle.model.specs.declared.Answer.the-variants.{Accepted}
 use Rattle.model.specs.declared.Refusal.{Refusal}
 use Rattle.model.specs.declared.Refusal.the-variants.{NoSuchTask, AlreadyPending, NotPending, NotScheduled, NoSuchCluster}
 use Rattle.model.specs.Words.{Plan, State, pending, scheduled, scheduled-set}
+
+-- what can be asked: a cluster's scheduled set, or a task's condition
+pub data Question : Type 0 where
+  ScheduledSet : ℕ → Question
+  ConditionOf : ℕ → Question
+
+-- a call since set-up
+pub data Call : Type 0 where
+  Act : Event → Call
+  Ask : Question → Call
 
 -- the first condition met decides
 abbrev pub first-of : List (Bool × Refusal) → Option Refusal

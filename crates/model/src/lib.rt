@@ -1,57 +1,44 @@
+// The arbiter's words, as types of the code.
 ghost use mathlib.Core.Path.{_≡_};
-ghost use Rattle.model.specs.Words.{«is-pending» as PendingIn, holds as HoldsIn, runs as RunsIn};
+ghost use Rattle.model.specs.Words.{holds as HoldsIn, runs as RunsIn};
 ghost use Rattle.model.specs.Numbers.{«condition-number» as ConditionNumber, «refusal-number» as RefusalNumber, «event-task» as EventTask, «event-kind» as EventKind};
 
-// What set-up is told of a task.
+/// What set-up is told of a task.
 #[derive(Clone, Copy)]
 pub struct Task {
     pub cluster: u8,
     pub parameter: u32,
 }
 
-// What the job of a task is at; a request has its resource and its mode.
+/// What the job of a task is at; a request has its resource and its mode.
 #[derive(Clone, Copy, PartialEq, Eq, Debug)]
 pub enum Condition {
-    // No pending job.
+    /// No pending job.
     Idle,
     Computing,
-    // Needs a resource, its request is not issued.
+    /// Needs a resource, its request is not issued.
     Wanting { resource: u8, mode: u8 },
-    // Issued, not granted.
+    /// Issued, not granted.
     Waiting { resource: u8, mode: u8 },
     Holding { resource: u8, mode: u8 },
-    // Finished, still pending.
+    /// Finished, still pending.
     Done,
 }
 
-// What changes a system: the events of its jobs.
+/// What changes a system: the events of its jobs.
 #[derive(Clone, Copy, PartialEq, Eq, Debug)]
 pub enum Event {
     Release { task: u8, instant: u32 },
     Finish { task: u8 },
 }
 
-// What can be asked of a system; asking moves nothing.
-#[derive(Clone, Copy, PartialEq, Eq, Debug)]
-pub enum Question {
-    ScheduledSet { cluster: u8 },
-    ConditionOf { task: u8 },
-}
-
-// One call of the arbiter after set-up.
-#[derive(Clone, Copy, PartialEq, Eq, Debug)]
-pub enum Call {
-    Act(Event),
-    Ask(Question),
-}
-
-// What an accepted event answers.
+/// What an accepted event answers.
 #[derive(Clone, Copy, PartialEq, Eq, Debug)]
 pub enum Answer {
     Accepted,
 }
 
-// Why a call or a set-up is turned away.
+/// Why a call or a set-up is turned away.
 #[derive(Clone, Copy, PartialEq, Eq, Debug)]
 pub enum Refusal {
     ClusterCount,
@@ -89,16 +76,6 @@ impl Event {
 }
 
 impl Condition {
-    /// Whether there is a pending job.
-    pub fn is_pending(self) -> bool
-        ensures { λ r. ⌜ r ≡ PendingIn self ⌝ }
-    {
-        match self {
-            Condition::Idle => false,
-            _ => true,
-        }
-    }
-
     /// Whether the job holds a resource.
     pub fn holds(self) -> bool
         ensures { λ r. ⌜ r ≡ HoldsIn self ⌝ }

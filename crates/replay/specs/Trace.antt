@@ -64,8 +64,8 @@ tables-of h s = tables (h .clusters) (h .«cluster_size») (s .tasks)
 -- the first of set-up's tests that the tables fail
 abbrev pub refused : {Mark : Type 0} → Urgency Mark → Tables → Option Refusal
 refused order x = first-of (
-  (outside 1 8 (x .clusters), ClusterCount) ∷ (outside 1 8 (x .size), ClusterSize) ∷ (outside 1 64 (length (x .tasks)), TaskCount)
-  ∷ (absent (x .clusters) (x .tasks), ClusterAbsent) ∷ (unfit (order .fits) (x .tasks), ParameterUnfit) ∷ [])
+    (outside 1 8 (x .clusters), ClusterCount) ∷ (outside 1 8 (x .size), ClusterSize) ∷ (outside 1 64 (length (x .tasks)), TaskCount)
+    ∷ (absent (x .clusters) (x .tasks), ClusterAbsent) ∷ (unfit (order .fits) (x .tasks), ParameterUnfit) ∷ [])
 
 -- the head line and a line for each event, with what it came to
 abbrev pub system-text : Tables → List Event → List Outcome → List ℕ

@@ -21,26 +21,26 @@ use cluster::Job;
 use model::Answer;
 use model::Condition;
 use model::Event;
+use model::Refusal;
+use model::RefusalDebug;
+use model::RefusalPartialEq;
 use order::EarliestDeadline;
 use order::EarliestDeadlineOrder;
 use order::Level;
 use order::LevelOrder;
-use model::Refusal;
 use order::Order;
 use report::push_head;
 use report::push_lines;
 use report::push_stop;
 use scenario::Fault;
+use scenario::FaultDebug;
+use scenario::FaultPartialEq;
 use scenario::Header;
 use scenario::Script;
 use scenario::Stop;
 use scenario::load;
 use std::alloc::AllocError;
 use std::alloc::Global;
-use model::RefusalDebug;
-use model::RefusalPartialEq;
-use scenario::FaultDebug;
-use scenario::FaultPartialEq;
 
 /// What stopped a replay.
 #[derive(Clone, Copy, PartialEq, Eq, Debug)]
@@ -95,7 +95,12 @@ fn filled<A: Copy>(heap: Global, x: A, n: usize) -> Result<Vec<A>, AllocError>
 }
 
 // A stop line after the text so far.
-fn stopped_after(heap: Global, mut text: String, cause: Cause, at: usize) -> Result<Trace, AllocError>
+fn stopped_after(
+    heap: Global,
+    mut text: String,
+    cause: Cause,
+    at: usize,
+) -> Result<Trace, AllocError>
     ensures { λ r. ⌜ made r (λ t. TraceView t ≡ StoppedAfter (string-bytes text) cause at) ⌝ }
 {
     push_stop(&mut text, heap, cause.number(), at)?;
@@ -135,7 +140,12 @@ fn run_events<O: Order>(
 }
 
 // The lines of a system: its head, and one for each event with its outcome.
-fn lines(heap: Global, system: &System<'_>, events: &[Event], all: &[Outcome]) -> Result<String, AllocError>
+fn lines(
+    heap: Global,
+    system: &System<'_>,
+    events: &[Event],
+    all: &[Outcome],
+) -> Result<String, AllocError>
     ensures { λ r. ⌜ made r (λ t. string-bytes t ≡ SystemText (said (now (system .entry))) (now (events .entry)) (now (all .entry))) ⌝ }
 {
     let clusters = usize::from(system.clusters);
@@ -162,7 +172,11 @@ fn run_in<O: Order>(
         places,
         counts: [0; 8],
     };
-    match arbiter.set_up(header.clusters, header.cluster_size, script.tasks.as_slice()) {
+    match arbiter.set_up(
+        header.clusters,
+        header.cluster_size,
+        script.tasks.as_slice(),
+    ) {
         Ok(system) => {
             let events = script.events.as_slice();
             let all = run_events(heap, &mut arbiter, &system, events)?;
@@ -188,7 +202,13 @@ fn run_under<O: Order>(heap: Global, header: Header, script: &Script) -> Result<
     };
     let mut jobs = filled(heap, idle, 64)?;
     let mut places = filled(heap, blank, 512)?;
-    run_in::<O>(heap, header, script, jobs.as_mut_slice(), places.as_mut_slice())
+    run_in::<O>(
+        heap,
+        header,
+        script,
+        jobs.as_mut_slice(),
+        places.as_mut_slice(),
+    )
 }
 
 // A scenario run under the order that its header names.
@@ -209,7 +229,12 @@ fn run_from(heap: Global, script: &Script) -> Result<Trace, AllocError>
     match script.header {
         Some(header) => run_by(heap, header, script),
         // A script with no header has stopped before.
-        None => stopped_after(heap, String::new(heap), Cause::Record(Fault::HeaderMisplaced), 0),
+        None => stopped_after(
+            heap,
+            String::new(heap),
+            Cause::Record(Fault::HeaderMisplaced),
+            0,
+        ),
     }
 }
 

@@ -15,10 +15,7 @@ const IDLE: Job = Job {
     recipient: None,
 };
 
-const BLANK: Entry<u32> = Entry {
-    mark: 0,
-    task: 0,
-};
+const BLANK: Entry<u32> = Entry { mark: 0, task: 0 };
 
 const TASKS: [Task; 2] = [
     Task {
@@ -32,7 +29,12 @@ const TASKS: [Task; 2] = [
 ];
 
 // A cluster's scheduled set, or the number of the refusal.
-fn show_set(rt: &LibcRuntime, arbiter: &Arbiter<'_, Level>, system: &System<'_>, cluster: u8) -> Result<(), AnyError> {
+fn show_set(
+    rt: &LibcRuntime,
+    arbiter: &Arbiter<'_, Level>,
+    system: &System<'_>,
+    cluster: u8,
+) -> Result<(), AnyError> {
     match arbiter.scheduled(system, cluster) {
         Ok(set) => println!(rt, "scheduled on {cluster}: {set}")?,
         Err(refusal) => {
@@ -44,7 +46,12 @@ fn show_set(rt: &LibcRuntime, arbiter: &Arbiter<'_, Level>, system: &System<'_>,
 }
 
 // A task's condition by its number, or the number of the refusal.
-fn show_condition(rt: &LibcRuntime, arbiter: &Arbiter<'_, Level>, system: &System<'_>, task: u8) -> Result<(), AnyError> {
+fn show_condition(
+    rt: &LibcRuntime,
+    arbiter: &Arbiter<'_, Level>,
+    system: &System<'_>,
+    task: u8,
+) -> Result<(), AnyError> {
     match arbiter.condition(system, task) {
         Ok(condition) => {
             let number = condition.number();

@@ -10,7 +10,12 @@ struct Draft {
 }
 
 impl Draft {
-    fn new(rt: &LibcRuntime, clusters: u8, cluster_size: u8, order: u8) -> Result<Draft, AllocError> {
+    fn new(
+        rt: &LibcRuntime,
+        clusters: u8,
+        cluster_size: u8,
+        order: u8,
+    ) -> Result<Draft, AllocError> {
         let mut draft = Draft {
             bytes: Vec::new(rt.alloc()),
         };
@@ -67,7 +72,11 @@ pub fn stops(rt: &LibcRuntime) -> Result<(), AnyError> {
     draft.task(0, 5)?;
     show(rt, "no event", draft.bytes.as_slice())?;
     draft.add(&[9])?;
-    show(rt, "unknown kind before the first event", draft.bytes.as_slice())?;
+    show(
+        rt,
+        "unknown kind before the first event",
+        draft.bytes.as_slice(),
+    )?;
     let mut draft = Draft::new(rt, 1, 1, 1)?;
     draft.add(&[1, 1, 1, 1])?;
     show(rt, "second header", draft.bytes.as_slice())?;
@@ -97,7 +106,13 @@ pub fn cut(rt: &LibcRuntime) -> Result<(), AnyError> {
 }
 
 // One task of the given kind, released.
-fn one(rt: &LibcRuntime, title: &str, head: (u8, u8, u8), cluster: u8, parameter: u32) -> Result<(), AnyError> {
+fn one(
+    rt: &LibcRuntime,
+    title: &str,
+    head: (u8, u8, u8),
+    cluster: u8,
+    parameter: u32,
+) -> Result<(), AnyError> {
     let mut draft = Draft::new(rt, head.0, head.1, head.2)?;
     draft.task(cluster, parameter)?;
     draft.release(0, 0)?;

@@ -10,8 +10,7 @@ pub loop-i-again : need.loop-i-again
 loop-i-again g c =
     let es = c .args .events .now in let i = c .loop-i .i in
     let l : i < length es = omega arith in
-    let k : i < length (c .args .outcomes .now) = omega arith in
-    (
+    let k : i < length (c .args .outcomes .now) = omega arith in (
       run-step (g .O·Order .urgency) (c .args .system .now) (contents (c .args .self .now)) (contents (c .loop-i .self)) es i _ l (c .loop-i .inv .0) (contents (c .outcome .last .self)) (c .outcome .ensures .stores),
       write-step (g .O·Order .urgency) (c .args .system .now) (contents (c .args .self .now)) (contents (c .loop-i .self)) es i _ l (c .loop-i .inv .0) (c .args .outcomes .now) (c .loop-i .outcomes) (c .outcome .result) k (c .outcome .ensures .value) (c .loop-i .inv .1),
     )
