@@ -66,7 +66,7 @@ fn show_condition(
 }
 
 // Questions, before and after a release.
-pub fn questions(rt: &LibcRuntime) -> Result<(), AnyError> {
+pub(super) fn questions(rt: &LibcRuntime) -> Result<(), AnyError> {
     let mut jobs = [IDLE; 2];
     let mut places = [BLANK; 2];
     let mut arbiter = Arbiter::<Level> {
@@ -91,7 +91,7 @@ pub fn questions(rt: &LibcRuntime) -> Result<(), AnyError> {
 }
 
 // Memory that is too small for the tasks: 3 comes before every other number.
-pub fn small(rt: &LibcRuntime) -> Result<(), AnyError> {
+pub(super) fn small(rt: &LibcRuntime) -> Result<(), AnyError> {
     let mut jobs = [IDLE; 1];
     let mut places = [BLANK; 2];
     let mut arbiter = Arbiter::<Level> {

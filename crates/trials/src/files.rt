@@ -64,7 +64,7 @@ fn measure(rt: &LibcRuntime, title: &str, file: &[u8]) -> Result<(), AnyError> {
 }
 
 // Each fault of a record, at its place.
-pub fn stops(rt: &LibcRuntime) -> Result<(), AnyError> {
+pub(super) fn stops(rt: &LibcRuntime) -> Result<(), AnyError> {
     show(rt, "empty file", &[])?;
     show(rt, "first record no header", &[2, 0, 1, 0, 0, 0])?;
     show(rt, "unknown first record", &[3, 1, 0])?;
@@ -92,7 +92,7 @@ pub fn stops(rt: &LibcRuntime) -> Result<(), AnyError> {
 }
 
 // A file cut after each of its bytes.
-pub fn cut(rt: &LibcRuntime) -> Result<(), AnyError> {
+pub(super) fn cut(rt: &LibcRuntime) -> Result<(), AnyError> {
     let mut draft = Draft::new(rt, 1, 1, 2)?;
     draft.task(0, 7)?;
     draft.release(0, 258)?;
@@ -120,7 +120,7 @@ fn one(
 }
 
 // Set-up's numbers, at the place of the first event.
-pub fn set_up(rt: &LibcRuntime) -> Result<(), AnyError> {
+pub(super) fn set_up(rt: &LibcRuntime) -> Result<(), AnyError> {
     one(rt, "no cluster", (0, 1, 1), 0, 1)?;
     one(rt, "nine clusters", (9, 1, 1), 0, 1)?;
     one(rt, "no processor", (1, 0, 1), 0, 1)?;
@@ -139,7 +139,7 @@ pub fn set_up(rt: &LibcRuntime) -> Result<(), AnyError> {
 }
 
 // Jobs released and finished.
-pub fn runs(rt: &LibcRuntime) -> Result<(), AnyError> {
+pub(super) fn runs(rt: &LibcRuntime) -> Result<(), AnyError> {
     let mut draft = Draft::new(rt, 1, 1, 1)?;
     draft.task(0, 10)?;
     draft.task(0, 5)?;
@@ -164,7 +164,7 @@ pub fn runs(rt: &LibcRuntime) -> Result<(), AnyError> {
 }
 
 // The largest systems and files.
-pub fn large(rt: &LibcRuntime) -> Result<(), AnyError> {
+pub(super) fn large(rt: &LibcRuntime) -> Result<(), AnyError> {
     let mut draft = Draft::new(rt, 1, 8, 2)?;
     for i in 0..64u32 {
         draft.task(0, i)?;
