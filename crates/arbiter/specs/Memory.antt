@@ -3,7 +3,7 @@ use mathlib.Core.Path.{_≡_}
 use mathlib.Core.Bool.{Bool, true, false, cond, not, _&&_, _||_}
 use mathlib.Core.List.{List, [], _∷_}
 use Prim.Native.Nat.{ℕ, _+_, _*_, _/_, _%_, _^_, _<_, _≤_}
-use denote.Ref.{now}
+use denote.Ref.{now, name}
 use lib.Dec.{ltb, eqb}
 use lib.ListN.{length, getD, set, take}
 use Rattle.std.specs.Finite.{nth}
@@ -38,6 +38,10 @@ pub record Contents (Mark : Type 0) : Type 0 where
 -- of an arbiter
 abbrev pub contents : {O Mark : Type 0} → Arbiter O Mark → Contents Mark
 contents a = record { jobs = now (a .jobs); places = now (a .places); counts = a .counts }
+
+-- the lent slices are the same ones as before, so that what they hold is what the caller's memory holds
+abbrev pub SameLoans : {O Mark : Type 0} → Arbiter O Mark → Arbiter O Mark → Type 0
+SameLoans a b = (name (b .jobs) ≡ name (a .jobs)) × (name (b .places) ≡ name (a .places))
 
 -- how many entries the list of cluster k has
 abbrev pub count-at : List ℕ → ℕ → ℕ

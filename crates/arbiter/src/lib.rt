@@ -3,7 +3,7 @@ ghost use mathlib.Core.Path.{_≡_};
 ghost use mathlib.Core.Bool.{Bool, true, false};
 ghost use Prim.Native.Nat.{ℕ, _*_, _<_, _≤_};
 ghost use lib.ListN.{length, replicate};
-ghost use Rattle.arbiter.specs.Memory.{contents, tables, «count-at» as CountAt, «cluster-at» as ClusterAt, «parameter-at» as ParameterAt, «task-count» as TaskCountOf, «too-small» as TooSmall, running, «in-set» as InSet, becoming, «with-entry» as WithEntry, «without-entry» as WithoutEntry, «turned-away» as TurnedAway, stored, replied, afterwards, «asked-set» as AskedSetOf};
+ghost use Rattle.arbiter.specs.Memory.{contents, SameLoans, tables, «count-at» as CountAt, «cluster-at» as ClusterAt, «parameter-at» as ParameterAt, «task-count» as TaskCountOf, «too-small» as TooSmall, running, «in-set» as InSet, becoming, «with-entry» as WithEntry, «without-entry» as WithoutEntry, «turned-away» as TurnedAway, stored, replied, afterwards, «asked-set» as AskedSetOf};
 ghost use Rattle.arbiter.specs.SetUp.{absent, unfit, «idle-job» as IdleJob, unaccepted, SetUp};
 ghost use Rattle.arbiter.specs.Outcomes.{«or-none» as OrNone, sets, outcome as OutcomeOf, Ran};
 ghost use Rattle.arbiter.specs.Meaning.{Acted, AskedSet, AskedCondition};
@@ -139,7 +139,8 @@ impl<O: Order> Arbiter<'_, O> {
         cluster_size: u8,
         tasks: &'t [Task],
     ) -> Result<System<'t>, Refusal>
-        ensures { λ r. ⌜ SetUp (O·Order .urgency) (tables clusters «cluster_size» (now (tasks .entry))) (contents (now (self .entry))) (contents (now (self .exit))) r ⌝ }
+        ensures result { λ r. ⌜ SetUp (O·Order .urgency) (tables clusters «cluster_size» (now (tasks .entry))) (contents (now (self .entry))) (contents (now (self .exit))) r ⌝ }
+        ensures loans { λ _. ⌜ SameLoans (now (self .entry)) (now (self .exit)) ⌝ }
     {
         if let Some(refusal) = self.refuse(clusters, cluster_size, tasks) {
             return Err(refusal);
@@ -209,7 +210,8 @@ impl<O: Order> Arbiter<'_, O> {
 
     // Changes the condition in a task's record.
     fn set_condition(&mut self, task: u8, condition: Condition)
-        ensures { λ _. ⌜ contents (now (self .exit)) ≡ becoming (contents (now (self .entry))) task condition ⌝ }
+        ensures memory { λ _. ⌜ contents (now (self .exit)) ≡ becoming (contents (now (self .entry))) task condition ⌝ }
+        ensures loans { λ _. ⌜ SameLoans (now (self .entry)) (now (self .exit)) ⌝ }
     {
         if let Some(mut job) = self.job_of(task) {
             job.condition = condition;
@@ -220,7 +222,8 @@ impl<O: Order> Arbiter<'_, O> {
     // Puts a job into its cluster's list.
     fn enter(&mut self, system: &System<'_>, cluster: u8, entry: Entry<O::Mark>)
         requires { ⌜ TaskCountOf (now system) ≤ 64 ⌝ }
-        ensures { λ _. ⌜ contents (now (self .exit)) ≡ WithEntry (O·Order .urgency) (now (system .entry)) (contents (now (self .entry))) cluster entry ⌝ }
+        ensures memory { λ _. ⌜ contents (now (self .exit)) ≡ WithEntry (O·Order .urgency) (now (system .entry)) (contents (now (self .entry))) cluster entry ⌝ }
+        ensures loans { λ _. ⌜ SameLoans (now (self .entry)) (now (self .exit)) ⌝ }
     {
         let n = system.tasks.len();
         let used = self.count_of(cluster);
@@ -231,7 +234,8 @@ impl<O: Order> Arbiter<'_, O> {
     // Takes a task's job out of its cluster's list.
     fn depart(&mut self, system: &System<'_>, cluster: u8, task: u8)
         requires { ⌜ TaskCountOf (now system) ≤ 64 ⌝ }
-        ensures { λ _. ⌜ contents (now (self .exit)) ≡ WithoutEntry (O·Order .urgency) (now (system .entry)) (contents (now (self .entry))) cluster task ⌝ }
+        ensures memory { λ _. ⌜ contents (now (self .exit)) ≡ WithoutEntry (O·Order .urgency) (now (system .entry)) (contents (now (self .entry))) cluster task ⌝ }
+        ensures loans { λ _. ⌜ SameLoans (now (self .entry)) (now (self .exit)) ⌝ }
     {
         let n = system.tasks.len();
         let used = self.count_of(cluster);
@@ -269,7 +273,8 @@ impl<O: Order> Arbiter<'_, O> {
     // What an accepted event does.
     fn apply(&mut self, system: &System<'_>, event: Event)
         requires { ⌜ TaskCountOf (now system) ≤ 64 ⌝ }
-        ensures { λ _. ⌜ contents (now (self .exit)) ≡ stored (O·Order .urgency) (now (system .entry)) (contents (now (self .entry))) event ⌝ }
+        ensures memory { λ _. ⌜ contents (now (self .exit)) ≡ stored (O·Order .urgency) (now (system .entry)) (contents (now (self .entry))) event ⌝ }
+        ensures loans { λ _. ⌜ SameLoans (now (self .entry)) (now (self .exit)) ⌝ }
     {
         match event {
             Event::Release { task, instant } => {
@@ -288,6 +293,7 @@ impl<O: Order> Arbiter<'_, O> {
     fn perform(&mut self, system: &System<'_>, event: Event) -> Result<Answer, Refusal>
         ensures replies { λ r. ⌜ r ≡ replied (O·Order .urgency) (now (system .entry)) (contents (now (self .entry))) event ⌝ }
         ensures stores { λ _. ⌜ contents (now (self .exit)) ≡ afterwards (O·Order .urgency) (now (system .entry)) (contents (now (self .entry))) event ⌝ }
+        ensures loans { λ _. ⌜ SameLoans (now (self .entry)) (now (self .exit)) ⌝ }
     {
         self.check(system, event)?;
         self.apply(system, event);
@@ -296,7 +302,8 @@ impl<O: Order> Arbiter<'_, O> {
 
     /// One event. A refused one changes nothing.
     pub fn act(&mut self, system: &System<'_>, event: Event) -> Result<Answer, Refusal>
-        ensures { λ r. ⌜ Acted (O·Order .urgency) (now (system .entry)) event (contents (now (self .entry))) (contents (now (self .exit))) r ⌝ }
+        ensures acted { λ r. ⌜ Acted (O·Order .urgency) (now (system .entry)) event (contents (now (self .entry))) (contents (now (self .exit))) r ⌝ }
+        ensures loans { λ _. ⌜ SameLoans (now (self .entry)) (now (self .exit)) ⌝ }
     {
         self.perform(system, event)
     }
@@ -308,14 +315,16 @@ impl<O: Order> Arbiter<'_, O> {
         task: u8,
         instant: u32,
     ) -> Result<Answer, Refusal>
-        ensures { λ r. ⌜ Acted (O·Order .urgency) (now (system .entry)) (Event.Release task instant) (contents (now (self .entry))) (contents (now (self .exit))) r ⌝ }
+        ensures acted { λ r. ⌜ Acted (O·Order .urgency) (now (system .entry)) (Event.Release task instant) (contents (now (self .entry))) (contents (now (self .exit))) r ⌝ }
+        ensures loans { λ _. ⌜ SameLoans (now (self .entry)) (now (self .exit)) ⌝ }
     {
         self.act(system, Event::Release { task, instant })
     }
 
     /// The job of a task finishes.
     pub fn finish(&mut self, system: &System<'_>, task: u8) -> Result<Answer, Refusal>
-        ensures { λ r. ⌜ Acted (O·Order .urgency) (now (system .entry)) (Event.Finish task) (contents (now (self .entry))) (contents (now (self .exit))) r ⌝ }
+        ensures acted { λ r. ⌜ Acted (O·Order .urgency) (now (system .entry)) (Event.Finish task) (contents (now (self .entry))) (contents (now (self .exit))) r ⌝ }
+        ensures loans { λ _. ⌜ SameLoans (now (self .entry)) (now (self .exit)) ⌝ }
     {
         self.act(system, Event::Finish { task })
     }
@@ -376,6 +385,7 @@ impl<O: Order> Arbiter<'_, O> {
     fn outcome(&mut self, system: &System<'_>, event: Event) -> Outcome
         ensures value { λ r. ⌜ r ≡ OutcomeOf (O·Order .urgency) (now (system .entry)) (contents (now (self .entry))) event ⌝ }
         ensures stores { λ _. ⌜ contents (now (self .exit)) ≡ afterwards (O·Order .urgency) (now (system .entry)) (contents (now (self .entry))) event ⌝ }
+        ensures loans { λ _. ⌜ SameLoans (now (self .entry)) (now (self .exit)) ⌝ }
     {
         let answer = self.act(system, event);
         let scheduled = self.sets(system);
@@ -385,7 +395,8 @@ impl<O: Order> Arbiter<'_, O> {
     /// Runs a list of events, as many as there are places for their outcomes, and answers how
     /// many it ran.
     pub fn run(&mut self, system: &System<'_>, events: &[Event], outcomes: &mut [Outcome]) -> usize
-        ensures { λ r. ⌜ Ran (O·Order .urgency) (now (system .entry)) (now (events .entry)) (now (outcomes .entry)) (contents (now (self .entry))) (contents (now (self .exit))) (now (outcomes .exit)) r ⌝ }
+        ensures ran { λ r. ⌜ Ran (O·Order .urgency) (now (system .entry)) (now (events .entry)) (now (outcomes .entry)) (contents (now (self .entry))) (contents (now (self .exit))) (now (outcomes .exit)) r ⌝ }
+        ensures loans { λ _. ⌜ SameLoans (now (self .entry)) (now (self .exit)) ⌝ }
     {
         let n = events.len().min(outcomes.len());
         for i in 0..n {

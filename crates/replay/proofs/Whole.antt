@@ -58,8 +58,8 @@ module _ {Mark : Type 0} (order : Urgency Mark) where
       (ltb (length (m .jobs)) (length (x .tasks)) || ltb (length (m .places)) (x .clusters * length (x .tasks)))
       (Some ClusterCount) (Some ClusterSize) (Some TaskCount) (Some MemoryTooSmall)
       (first-of ((absent (x .clusters) (x .tasks), ClusterAbsent) ∷ (unfit (order .fits) (x .tasks), ParameterUnfit) ∷ [])) (λ a c.
-      let k : x .clusters ≤ 8 = ltb-false 8 (x .clusters) (or-parts _ _ a .1) in
-      let n : length (x .tasks) ≤ 64 = ltb-false 64 (length (x .tasks)) (or-parts _ _ c .1) in
+      let k : x .clusters ≤ 8 = ltb-false 8 (x .clusters) (or-parts (ltb (x .clusters) 1) (ltb 8 (x .clusters)) a .1) in
+      let n : length (x .tasks) ≤ 64 = ltb-false 64 (length (x .tasks)) (or-parts (ltb (length (x .tasks)) 1) (ltb 64 (length (x .tasks))) c .1) in
       let q : x .clusters * length (x .tasks) ≤ 8 * 64 = mul-le (x .clusters) (length (x .tasks)) 8 64 k n in
       let a1 : length (x .tasks) ≤ length (m .jobs) = omega arith in
       let a2 : x .clusters * length (x .tasks) ≤ length (m .places) = omega arith in

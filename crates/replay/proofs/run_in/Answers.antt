@@ -22,7 +22,7 @@ returns-in-Continue-text g c =
     let x = tables (h .clusters) (h .«cluster_size») (c .as-slice .result .now) in
     let m : Contents (g .O·Mark .Denot) = record { jobs = c .args .jobs .now; places = c .args .places .now; counts = eight (λ _. 0) } in
     let z : x ≡ tables-of h s = ap (tables (h .clusters) (h .«cluster_size»)) (c .as-slice .ensures .value) in
-    let a = granted order (g .O·Order·met .lawful) _ x (said (c .in-Ok .system)) (c .in-Ok .ensures tt .replies) in
+    let a = granted order (g .O·Order·met .lawful) _ x (said (c .in-Ok .system)) (c .in-Ok .ensures tt .result .replies) in
     let none : refused order (tables-of h s) ≡ None = ap (refused order) (sym z) ∙ (sym (enough-memory order x m (c .pre .0) (c .pre .1)) ∙ a .0) in
     let es = c .as-slice-events .result .now in
     let t : string-bytes (c .in-Continue-text .text) ≡ run-text order (tables-of h s) (s .events) =
@@ -41,7 +41,7 @@ returns-in-Err g c =
     let m : Contents (g .O·Mark .Denot) = record { jobs = c .args .jobs .now; places = c .args .places .now; counts = eight (λ _. 0) } in
     let z : x ≡ tables-of h s = ap (tables (h .clusters) (h .«cluster_size»)) (c .as-slice .ensures .value) in
     let some : refused order (tables-of h s) ≡ Some (c .in-Err .refusal) =
-    ap (refused order) (sym z) ∙ (sym (enough-memory order x m (c .pre .0) (c .pre .1)) ∙ turned-down _ x (c .in-Err .refusal) (c .in-Err .ensures tt .replies)) in
+    ap (refused order) (sym z) ∙ (sym (enough-memory order x m (c .pre .0) (c .pre .1)) ∙ turned-down _ x (c .in-Err .refusal) (c .in-Err .ensures tt .result .replies)) in
     made-weaker (c .stopped-after .result) _ _
     (λ r e. e ∙ (ap (λ v. stopped-after v (SetUp (c .in-Err .refusal)) (s .start)) (c .new .ensures .bytes)
     ∙ sym (ap (λ o. ran-unless o (s .start) (ending (run-text order (tables-of h s) (s .events)) (s .stop))) some)))
