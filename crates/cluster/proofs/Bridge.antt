@@ -20,9 +20,8 @@ use Rattle.model.proofs.Count.{tally-same}
 use Rattle.model.proofs.Rank.{Ordered}
 use Rattle.model.proofs.Basics.{cases-opt}
 use Rattle.model.proofs.Schedule.{ordered}
-use Rattle.cluster.proofs.Lines.{Lines}
 use Rattle.cluster.specs.Listing.{Listed, tasks-of, Marked, urgent}
-use Rattle.cluster.proofs.Line.{has-read, rank-at, at-rank, count-line, fore-is}
+use Rattle.cluster.proofs.Line.{Lines, has-read, rank-at, at-rank, count-line, fore-is}
 
 pub and-twice : (a e b : Bool) → (a && (e && b)) ≡ ((a && e) && (e && b))
 and-twice true true b = refl

@@ -20,11 +20,10 @@ use Rattle.model.specs.Words.{Plan, State, is-pending, holds, is-open, runs, on
 use Rattle.model.proofs.Basics.{cases-opt, none-some, some-same}
 use Rattle.model.proofs.Conditions.{runs-pending, holds-open, runs-open-holds}
 use Rattle.model.proofs.Schedule.{ordered}
-use Rattle.cluster.proofs.Lines.{Lines}
 use Rattle.cluster.specs.Picks.{pick, chosen, cons-some}
 use Rattle.cluster.specs.Listing.{Listed, tasks-of}
 use Rattle.cluster.specs.Claims.{Tied}
-use Rattle.cluster.proofs.Line.{leads-has, fore-is}
+use Rattle.cluster.proofs.Line.{Lines, leads-has, fore-is}
 use Rattle.cluster.proofs.Bridge.{line, tally-mates, and-one}
 
 -- a line of picks

@@ -32,16 +32,5 @@ module _ {M : Type 0} (P : Plan M) (law : Lawful (P .order .before)) (s : State 
       let c : length (take used old) ≡ used = length-take-le used old fits in
       omega arith
 
-  pub departs : (i : ℕ) → i ≡ found (λ e. e .task) t (take used old) → (new rest : List (Entry M)) → new ≡ removed (take used old) i ++ rest → Listed P (become s t Idle) (P .cluster t) (take (used - 1) new)
-  departs i e new rest n =
-      let f = found-at t (take used old) here in
-      let l : found (λ e. e .task) t (take used old) < length (tasks-of (take used old)) = f .0 in
-      let li2 : i < length (tasks-of (take used old)) = omega arith in
-      let b : length (tasks-of (take used old)) ≡ length (take used old) = length-tasks (take used old) in
-      let c : length (take used old) ≡ used = length-take-le used old fits in
-      let li3 : i < length (take used old) = omega arith in
-      let d0 : length (removed (take used old) i) + 1 ≡ length (take used old) = length-removed (take used old) i li3 in
-      let d : length (removed (take used old) i) ≡ used - 1 = omega arith in
-      let r : take (used - 1) new ≡ removed (take used old) i = ap (take (used - 1)) n ∙ take-at (removed (take used old) i) rest (used - 1) d in
-      subst (Listed P (become s t Idle) (P .cluster t)) (sym r)
-      (listed-leave P law s (P .cluster t) t i (take used old) li li2 (ap (λ j. getD (tasks-of (take used old)) j 0) e ∙ f .1))
+  pub departs : Listed P (become s t Idle) (P .cluster t) (removed (take used old) (found (λ e. e .task) t (take used old)))
+  departs = let f = found-at t (take used old) here in listed-leave P law s (P .cluster t) t _ (take used old) li (f .0) (f .1)

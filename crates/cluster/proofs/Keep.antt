@@ -22,9 +22,8 @@ use Rattle.model.specs.Rules.{put, arrive, become}
 use Rattle.model.proofs.Count.{tally-all, tally-more}
 use Rattle.model.proofs.Basics.{put-here, put-there}
 use Rattle.model.proofs.Schedule.{ordered}
-use Rattle.cluster.proofs.Lines.{Lines}
 use Rattle.cluster.specs.Listing.{Listed, tasks-of, Marked, urgent}
-use Rattle.cluster.proofs.Line.{has-read, leads-has, fresh}
+use Rattle.cluster.proofs.Line.{Lines, has-read, leads-has, fresh}
 use Rattle.cluster.proofs.Bridge.{line, mine, count-is}
 
 or-swap : (a b c : Bool) → (a || (b || c)) ≡ (b || (a || c))

@@ -8,20 +8,25 @@ use native.Mathlib.Omega.{arith}
 use lib.Dec.{eqb, ltb}
 use lib.ListN.{length, getD, take}
 use Rattle.std.proofs.shelf.Tests.{cases-bool, cases-eq, and-parts, and-from, and-left, and-right, or-cases, or-left, or-right, or-from, ltb-true, ltb-false, lt-ltb, le-ltb, both-ways, eqb-true, eq-eqb, ne-eqb, cases-lt}
-use Rattle.ordered.specs.Ranks.{Sorted, Leads}
+use Rattle.std.proofs.shelf.Maps.{nth-getD}
+use Rattle.ordered.specs.Ranks.{Sorted, Leads, passing}
+use Rattle.ordered.proofs.Counts.{standing-rank}
 use Rattle.model.specs.Tally.{tally}
 use Rattle.cluster.specs.Listing.{has}
 use Rattle.model.proofs.Count.{one, tally-same, tally-without, without, without-here, without-there}
-use Rattle.cluster.proofs.Lines.{Lines}
 
--- how many of ts pass
-abbrev pub passing : (ℕ → Bool) → List ℕ → ℕ
-passing q [] = 0
-passing q (t ∷ ts) = one (q t) + passing q ts
+-- a line: the tasks that pass a test, each once, in an order
+pub record Lines (goes : ℕ → ℕ → Bool) (P : ℕ → Bool) (ts : List ℕ) : Type 0 where
+  pub sorted : Sorted goes ts
+  pub exactly : (t : ℕ) → has ts t ≡ P t
+
+-- one more is passed or not
+passing-one : (q : ℕ → Bool) (t : ℕ) (ts : List ℕ) → passing q (t ∷ ts) ≡ one (q t) + passing q ts
+passing-one q t ts = elim (q t) as (λ b. cond b (suc (passing q ts)) (passing q ts) ≡ one b + passing q ts) [ true ↦ omega arith | false ↦ omega arith ]
 
 pub passing-all : (ts : List ℕ) → passing (λ _. true) ts ≡ length ts
 passing-all [] = refl
-passing-all (t ∷ ts) = let r : passing (λ _. true) ts ≡ length ts = passing-all ts in omega arith
+passing-all (t ∷ ts) = ap suc (passing-all ts)
 
 pub has-read : (ts : List ℕ) (i : ℕ) → i < length ts → has ts (getD ts i 0) ≡ true
 has-read [] i l = absurd (omega arith)
@@ -60,9 +65,6 @@ module _ (goes : ℕ → ℕ → Bool) (never : (t : ℕ) → goes t t ≡ false
   pub fresh : (x : ℕ) (ts : List ℕ) → Leads goes x ts → has ts x ≡ false
   fresh x ts l = ⊎-elim (λ (h : has ts x ≡ true). absurd (both-ways (goes x x) (never x) (leads-has x ts x l h))) (λ (h : has ts x ≡ false). h) (cases-bool (has ts x))
 
-  after : (x y : ℕ) → goes x y ≡ true → goes y x ≡ false
-  after x y g = ⊎-elim (λ (h : goes y x ≡ true). absurd (both-ways (goes x x) (never x) (carries x y x g h))) (λ (h : goes y x ≡ false). h) (cases-bool (goes y x))
-
   -- the tasks of a line that pass are as many as pass along it
   pub tally-line : (n : ℕ) (ts : List ℕ) → Sorted goes ts → ((t : ℕ) → has ts t ≡ true → t < n) → (q : ℕ → Bool) → tally n (λ u. has ts u && q u) ≡ passing q ts
   tally-line n [] s b q = let r : tally n (λ u. has [] u && q u) ≡ tally n (λ _. false) = tally-same n _ _ (λ u l. refl) in r ∙ none n
@@ -72,6 +74,7 @@ module _ (goes : ℕ → ℕ → Bool) (never : (t : ℕ) → goes t t ≡ false
       none (suc n) = let r : tally n (λ _. false) ≡ 0 = none n in omega arith
   tally-line n (x ∷ xs) s b q =
       let r : tally n (λ u. has xs u && q u) ≡ passing q xs = tally-line n xs (s .1) (λ t h. b t (or-right (eqb x t) _ h)) q in
+      let one-more : passing q (x ∷ xs) ≡ one (q x) + passing q xs = passing-one q x xs in
       let f : has xs x ≡ false = fresh x xs (s .0) in
       let lx : x < n = b x (or-left (eqb x x) _ (eq-eqb x x refl)) in
       let off : (u : ℕ) → (u ≡ x → ⊥) → ((eqb x u || has xs u) && q u) ≡ (has xs u && q u) = λ u ne. let e : eqb x u ≡ false = ne-eqb x u (λ z. ne (sym z)) in rw e in
@@ -95,23 +98,8 @@ module _ (goes : ℕ → ℕ → Bool) (never : (t : ℕ) → goes t t ≡ false
       omega arith)
       (cases-bool (q x))
 
-  passing-none : (x : ℕ) (ts : List ℕ) → Leads goes x ts → passing (λ u. goes u x) ts ≡ 0
-  passing-none x [] l = refl
-  passing-none x (y ∷ ys) l =
-      let a : one (goes y x) ≡ 0 = ap one (after x y (l .0)) in
-      let r : passing (λ u. goes u x) ys ≡ 0 = passing-none x ys (l .1) in
-      omega arith
-
   passing-at : (ts : List ℕ) (i : ℕ) → Sorted goes ts → i < length ts → passing (λ u. goes u (getD ts i 0)) ts ≡ i
-  passing-at [] i s l = absurd (omega arith)
-  passing-at (x ∷ xs) zero s l =
-      let a : one (goes x x) ≡ 0 = ap one (never x) in
-      let r : passing (λ u. goes u x) xs ≡ 0 = passing-none x xs (s .0) in
-      omega arith
-  passing-at (x ∷ xs) (suc i) s l =
-      let a : one (goes x (getD xs i 0)) ≡ 1 = ap one (leads-has x xs (getD xs i 0) (s .0) (has-read xs i (omega arith))) in
-      let r : passing (λ u. goes u (getD xs i 0)) xs ≡ i = passing-at xs i (s .1) (omega arith) in
-      omega arith
+  passing-at ts i s l = standing-rank goes never carries ts i (getD ts i 0) s (nth-getD ts i 0 l)
 
   front-at : (c : ℕ) (ts : List ℕ) (i : ℕ) → Sorted goes ts → i < length ts → has (take c ts) (getD ts i 0) ≡ ltb i c
   front-at zero ts i s l = sym (le-ltb i 0 (omega arith))

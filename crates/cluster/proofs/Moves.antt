@@ -15,7 +15,7 @@ use Rattle.std.specs.Holes.{removed}
 use Rattle.std.proofs.shelf.Lists.{take-at, take-all, length-take-le}
 use Rattle.std.proofs.shelf.Tests.{cases-bool, cases-lt, ltb-true, leb-true, lt-ltb, le-ltb, cond-true, cond-false, and-from, and-parts, le-leb}
 use Rattle.std.proofs.shelf.Edits.{length-removed}
-use Rattle.ordered.proofs.Fronts.{length-ranked}
+use Rattle.ordered.proofs.Fronts.{length-ranked, ranked-front, closed-front}
 use Rattle.order.specs.Urgency.{Lawful}
 use Rattle.ordered.specs.Ranks.{ranked, found}
 use Rattle.ordered.specs.Places.{held, taken, closed}
@@ -37,9 +37,8 @@ module _ {M : Type 0} (before : M → ℕ → M → ℕ → Bool) (law : Lawful 
       (λ (l : used < length old).
       let n : entered-count used (length old) ≡ used + 1 = cond-true (ltb used (length old)) _ _ (lt-ltb used (length old) l) in
       let x : entered before used e old ≡ ranked (urgent before) e (take used old) ++ drop (used + 1) old = cond-true (ltb used (length old)) _ _ (lt-ltb used (length old) l) in
-      let a : length (ranked (urgent before) e (take used old)) ≡ used + 1 = length-ranked (urgent before) e (take used old) ∙ ap (λ i. i + 1) (length-take-le used old (omega arith)) in
       let y : take (entered-count used (length old)) (entered before used e old) ≡ ranked (urgent (P .order .before)) e (take used old) =
-      ap (λ i. take i (entered before used e old)) n ∙ (ap (take (used + 1)) x ∙ (take-at _ (drop (used + 1) old) (used + 1) a ∙ ap (λ f. ranked (urgent f) e (take used old)) (sym b))) in
+      ap (λ i. take i (entered before used e old)) n ∙ (ap (take (used + 1)) x ∙ (ranked-front (urgent before) e old used l ∙ ap (λ f. ranked (urgent f) e (take used old)) (sym b))) in
       subst (Listed P (arrive s (e .task) (e .mark)) (P .cluster (e .task))) (sym y)
       (listed-arrive P good s (P .cluster (e .task)) (e .task) (e .mark) (take used old) li lt refl no'))
       (λ (l : length old ≤ used).
@@ -54,9 +53,7 @@ module _ {M : Type 0} (before : M → ℕ → M → ℕ → Bool) (law : Lawful 
       let f : found (λ e. e .task) t (take used old) < used = is-found P good s t p old used most li in
       let h : (ltb (found (λ e. e .task) t (take used old)) used && leb used (length old)) ≡ true = and-from (ltb (found (λ e. e .task) t (take used old)) used) _ (lt-ltb _ _ f) (le-leb used (length old) most) in
       let n : departed-count used t old ≡ used - 1 = cond-true _ _ _ h in
-      let x : departed used t old ≡ removed (take used old) (found (λ e. e .task) t (take used old)) ++ drop (used - 1) old = cond-true _ _ _ h in
-      subst (λ i. Listed P (become s t Idle) (P .cluster t) (take i (departed used t old))) (sym n)
-      (departs P good s t p old used most li _ refl (departed used t old) _ x)
+      subst (Listed P (become s t Idle) (P .cluster t)) (sym (ap (λ i. take i (departed used t old)) n ∙ closed-front old used (found (λ e. e .task) t (take used old)) f most)) (departs P good s t p old used most li)
 
 -- what the count is where the list had a place or an entry, and where it had not
 pub counted : {A : Type 0} (b : Bool) (x : A) (o : Option A) (n z : ℕ) → Some x ≡ cond b o None → n ≡ cond b n z

@@ -38,26 +38,17 @@ leads-at before y [] (suc i) x l is = cc
 leads-at before y (z ∷ zs) zero x l is = let same : z ≡ x = cc in ap (before y) (sym same) ∙ l .0
 leads-at before y (z ∷ zs) (suc i) x l is = leads-at before y zs i x (l .1) is
 
-module _ {E : Type 0} {key : E → ℕ} {before : E → E → Bool} (laws : Ranks key before) where
+module _ {E : Type 0} (before : E → E → Bool) (never : (x : E) → before x x ≡ false)
+    (carries : (x y z : E) → before x y ≡ true → before y z ≡ true → before x z ≡ true) where
   pub never-back : (x y : E) → before x y ≡ true → before y x ≡ false
   never-back x y h =
       elim (before y x) as (λ b. before y x ≡ b → b ≡ false)
-      [ true ↦ λ k. sym (laws .transitive x y x h k) ∙ laws .irreflexive x | false ↦ λ _. refl ] refl
+      [ true ↦ λ k. sym (carries x y x h k) ∙ never x | false ↦ λ _. refl ] refl
 
   -- none of those after e goes before it
   passing-after : (e : E) (xs : List E) → Leads before e xs → passing (λ x. before x e) xs ≡ 0
   passing-after e [] l = refl
   passing-after e (x ∷ xs) l = simp (never-back e x (l .0)) (passing-after e xs (l .1))
-
-  -- a new element comes to stand behind just those that go before it
-  pub place-rank : (e : E) (xs : List E) → Sorted before xs → Fresh key (key e) xs → place before e xs ≡ passing (λ x. before x e) xs
-  place-rank e [] s f = refl
-  place-rank e (x ∷ xs) s f =
-      let p : E → Bool = λ y. before y e in
-      elim (before x e) as (λ b. before x e ≡ b → cond (not b) 0 (suc (place before e xs)) ≡ cond b (suc (passing p xs)) (passing p xs)) [
-        | true ↦ λ _. ap suc (place-rank e xs (s .1) (f .1))
-        | false ↦ λ h. sym (passing-after e xs (leads-along laws e x xs (laws .different x e (f .0) ∙ ap not h) (s .0)))
-      ] refl
 
   -- an element of a sorted list stands behind just those that go before it
   pub standing-rank : (xs : List E) (i : ℕ) (x : E) → Sorted before xs → nth xs i ≡ Some x → passing (λ y. before y x) xs ≡ i
@@ -65,5 +56,16 @@ module _ {E : Type 0} {key : E → ℕ} {before : E → E → Bool} (laws : Rank
   standing-rank [] (suc i) x s is = cc
   standing-rank (y ∷ ys) zero x s is =
       let same : y ≡ x = cc in
-      ap (λ z. passing (λ w. before w z) (y ∷ ys)) (sym same) ∙ simp (laws .irreflexive y) (passing-after y ys (s .0))
+      ap (λ z. passing (λ w. before w z) (y ∷ ys)) (sym same) ∙ simp (never y) (passing-after y ys (s .0))
   standing-rank (y ∷ ys) (suc i) x s is = simp (leads-at before y ys i x (s .0) is) (ap suc (standing-rank ys i x (s .1) is))
+
+module _ {E : Type 0} {key : E → ℕ} {before : E → E → Bool} (laws : Ranks key before) where
+  -- a new element comes to stand behind just those that go before it
+  pub place-rank : (e : E) (xs : List E) → Sorted before xs → Fresh key (key e) xs → place before e xs ≡ passing (λ x. before x e) xs
+  place-rank e [] s f = refl
+  place-rank e (x ∷ xs) s f =
+      let p : E → Bool = λ y. before y e in
+      elim (before x e) as (λ b. before x e ≡ b → cond (not b) 0 (suc (place before e xs)) ≡ cond b (suc (passing p xs)) (passing p xs)) [
+        | true ↦ λ _. ap suc (place-rank e xs (s .1) (f .1))
+        | false ↦ λ h. sym (passing-after before (laws .irreflexive) (laws .transitive) e xs (leads-along laws e x xs (laws .different x e (f .0) ∙ ap not h) (s .0)))
+      ] refl
