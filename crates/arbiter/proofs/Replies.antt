@@ -7,15 +7,13 @@ use Prim.Native.Nat.{ℕ, _/_, _%_, _^_, _<_, _≤_}
 use native.Mathlib.Omega.{arith}
 use denote.Ref.{now}
 use lib.Dec.{ltb, eqb}
-use Rattle.std.specs.declared.option.Option.{Option}
 use Rattle.std.specs.declared.option.Option.the-variants.{Some, None}
-use Rattle.std.proofs.shelf.Tests.{cases-lt, lt-ltb, le-ltb, eq-eqb, and-left, cond-true, cond-false, not-from-false}
+use Rattle.std.proofs.shelf.Tests.{cases-lt, lt-ltb, le-ltb, eq-eqb, cond-true, cond-false, not-from-false}
 use Rattle.order.specs.Urgency.{Urgency, Lawful}
 use Rattle.model.specs.declared.Event.{Event}
 use Rattle.model.specs.declared.Event.the-variants.{Release, Finish}
-use Rattle.model.specs.declared.Refusal.{Refusal}
-use Rattle.model.specs.declared.Refusal.the-variants.{MemoryTooSmall, NoSuchTask, AlreadyPending, NotPending, NotScheduled, NoSuchCluster}
-use Rattle.model.specs.Words.{Plan, State, is-pending, members, pending, scheduled, scheduled-set}
+use Rattle.model.specs.declared.Refusal.the-variants.{NoSuchTask, AlreadyPending, NotPending, NotScheduled, NoSuchCluster}
+use Rattle.model.specs.Words.{Plan, State, is-pending, pending, scheduled, scheduled-set}
 use Rattle.model.specs.Rules.{Call, after, refusal, unless, scheduled-answer, condition-answer}
 use Rattle.model.proofs.Basics.{none-some}
 use Rattle.model.proofs.Count.{one}
@@ -27,7 +25,7 @@ use Rattle.cluster.proofs.Bits.{members-bit}
 use Rattle.cluster.proofs.Whole.{set-holds}
 use Rattle.arbiter.specs.declared.System.{System}
 use Rattle.arbiter.specs.Memory.{Contents, task-count, cluster-at, plan-of, in-set, too-small, list-of, running, turned-away, asked-set, asked-condition}
-use Rattle.arbiter.specs.Meaning.{Represents, Reached}
+use Rattle.arbiter.specs.Meaning.{Reached}
 
 -- where nobody donates, nobody's links are at odds
 tied : {Mark : Type 0} (P : Plan Mark) (s : State Mark) → Plain P s → Tied P s

@@ -1,7 +1,7 @@
 -- A list of events run on the memory is that list run by the rules.
 use mathlib.Core.Path.{_≡_, refl, sym, ap, _∙_, subst}
 use mathlib.Core.List.{List, [], _∷_, _++_, append-assoc}
-use Prim.Native.Nat.{ℕ, zero, suc, _+_, min, _<_, _≤_}
+use Prim.Native.Nat.{ℕ, suc, _+_, min, _<_}
 use native.Mathlib.Omega.{arith}
 use lib.ListN.{length, getD, set, take, drop}
 use Rattle.std.proofs.shelf.Lists.{take-more, drop-more, set-at, length-take-le}
@@ -11,7 +11,7 @@ use Rattle.model.specs.Rules.{Call, Act, after, answer, act, scheduled-answer}
 use Rattle.model.proofs.Runs.{kept}
 use Rattle.arbiter.specs.declared.System.{System}
 use Rattle.arbiter.specs.declared.Outcome.{Outcome}
-use Rattle.arbiter.specs.Memory.{Contents, plan-of, replied, afterwards, asked-set}
+use Rattle.arbiter.specs.Memory.{Contents, plan-of, replied, afterwards}
 use Rattle.arbiter.specs.Meaning.{Reached}
 use Rattle.arbiter.specs.Outcomes.{or-none, eight, with-events, outcomes, sets, outcome, ran-on, written, Ran}
 use Rattle.arbiter.proofs.Replies.{asked-set-is}

@@ -1,6 +1,6 @@
 -- An accepted set-up leaves memory that stands for the state in which every task is idle.
 use mathlib.Core.Path.{_≡_, refl, sym, ap, _∙_, subst}
-use mathlib.Core.Bool.{Bool, true, false, cond, not, _||_}
+use mathlib.Core.Bool.{Bool, true, false, not}
 use mathlib.Core.List.{List, [], _∷_}
 use Prim.Native.Nat.{ℕ, zero, suc, _*_, _<_, _≤_}
 use native.Mathlib.Omega.{arith}
@@ -13,23 +13,20 @@ use Rattle.std.specs.declared.option.Option.{Option}
 use Rattle.std.specs.declared.option.Option.the-variants.{Some, None}
 use Rattle.std.specs.declared.result.Result.{Result}
 use Rattle.std.specs.declared.result.Result.the-variants.{Ok, Err}
-use Rattle.std.proofs.shelf.Tests.{or-parts, or-from, ltb-true, ltb-false, le-ltb, not-false}
+use Rattle.std.proofs.shelf.Tests.{or-parts, ltb-true, ltb-false, not-false}
 use Rattle.order.specs.Urgency.{Urgency, Lawful}
 use Rattle.model.specs.declared.Task.{Task}
-use Rattle.model.specs.declared.Condition.the-variants.{Idle}
 use Rattle.model.specs.declared.Refusal.{Refusal}
-use Rattle.model.specs.Words.{Plan}
 use Rattle.model.specs.Rules.{start, unless, kept-if}
-use Rattle.model.specs.Promise.{Accepted, Kept}
+use Rattle.model.specs.Promise.{Kept}
 use Rattle.model.proofs.Runs.{kept}
-use Rattle.cluster.specs.declared.Job.{Job}
 use Rattle.cluster.specs.Listing.{Listed, part}
 use Rattle.cluster.specs.Picks.{read}
 use Rattle.cluster.proofs.Keep.{listed-none}
 use Rattle.arbiter.specs.declared.System.{System}
 use Rattle.arbiter.specs.Memory.{Tables, said, Contents, count-at, cluster-at, parameter-at, task-count, plan-of}
-use Rattle.arbiter.specs.Meaning.{Represents, Reached}
-use Rattle.arbiter.specs.SetUp.{outside, some-of, absent, unfit, idle-job, unaccepted, cleared, told, SetUp}
+use Rattle.arbiter.specs.Meaning.{Reached}
+use Rattle.arbiter.specs.SetUp.{outside, absent, unfit, idle-job, unaccepted, cleared, told, SetUp}
 use Rattle.arbiter.proofs.Steps.{passed}
 use Rattle.arbiter.proofs.Stores.{suffices}
 

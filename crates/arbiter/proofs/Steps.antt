@@ -1,12 +1,12 @@
 -- A call that keeps its code's equations keeps all that is said of it.
 use mathlib.Core.Path.{_≡_, refl, sym, ap, _∙_, subst}
-use mathlib.Core.Bool.{Bool, true, false, cond, not}
-use mathlib.Core.List.{List, [], _∷_}
+use mathlib.Core.Bool.{Bool, true, false, cond}
+use mathlib.Core.List.{List, _∷_}
 use mathlib.Core.Logic.{⊎-elim}
 use Prim.Native.Nat.{ℕ, _+_, _-_, _*_, _<_, _≤_}
 use native.Mathlib.Omega.{arith}
 use denote.Ref.{now}
-use lib.Dec.{ltb, leb}
+use lib.Dec.{ltb}
 use lib.ListN.{length, set, take, drop, length-drop}
 use Rattle.std.specs.Finite.{nth}
 use Rattle.std.specs.Results.{isOk}
@@ -14,7 +14,7 @@ use Rattle.std.specs.declared.option.Option.{Option}
 use Rattle.std.specs.declared.option.Option.the-variants.{Some, None}
 use Rattle.std.specs.declared.result.Result.{Result}
 use Rattle.std.proofs.shelf.Lists.{length-take-le}
-use Rattle.std.proofs.shelf.Tests.{cases-bool, cases-lt, le-leb, ltb-true, lt-ltb, le-ltb, cond-true, cond-false, not-true, not-false, true≢false}
+use Rattle.std.proofs.shelf.Tests.{cases-lt, le-leb, ltb-true, lt-ltb, le-ltb, cond-true, cond-false, not-false, true≢false}
 use Rattle.order.specs.Urgency.{Urgency, Lawful}
 use Rattle.ordered.specs.Ranks.{found}
 use Rattle.ordered.specs.Places.{held}
@@ -25,8 +25,8 @@ use Rattle.model.specs.declared.Event.the-variants.{Release, Finish}
 use Rattle.model.specs.declared.Answer.{Answer}
 use Rattle.model.specs.declared.Answer.the-variants.{Accepted as Ok-answer}
 use Rattle.model.specs.declared.Refusal.{Refusal}
-use Rattle.model.specs.Words.{Plan, State, is-pending, pending}
-use Rattle.model.specs.Rules.{Question, ScheduledSet, ConditionOf, Call, Act, Ask, put, arrive, become, after, refusal, moved, unless, kept-if}
+use Rattle.model.specs.Words.{State, is-pending, pending}
+use Rattle.model.specs.Rules.{Question, ScheduledSet, ConditionOf, Act, Ask, put, arrive, become, after, refusal, moved, unless, kept-if}
 use Rattle.model.specs.Promise.{Accepted}
 use Rattle.model.proofs.Basics.{put-there}
 use Rattle.model.proofs.Runs.{kept}
@@ -36,7 +36,7 @@ use Rattle.cluster.proofs.Keep.{listed-apart}
 use Rattle.cluster.proofs.Moves.{arrives, leaves, length-entered, length-closed}
 use Rattle.arbiter.specs.declared.System.{System}
 use Rattle.arbiter.specs.Memory.{Contents, task-count, count-at, cluster-at, parameter-at, plan-of, with-condition, turned-away, stored, replied, afterwards, asked-set, asked-condition}
-use Rattle.arbiter.specs.Meaning.{Represents, Reached, Acted, Asked, AskedSet, AskedCondition}
+use Rattle.arbiter.specs.Meaning.{Represents, Acted, Asked, AskedSet, AskedCondition}
 use Rattle.arbiter.proofs.Replies.{turned-away-is, asked-set-is, asked-condition-is}
 use Rattle.arbiter.proofs.Stores.{shows-become, length-condition, sizes, exist, changed}
 

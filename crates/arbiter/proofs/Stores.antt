@@ -1,13 +1,11 @@
 -- An accepted event takes memory that stands for a state to memory that stands for the next one.
 use mathlib.Core.Path.{_≡_, refl, sym, ap, _∙_, subst}
-use mathlib.Core.Bool.{Bool, true, false, cond}
+use mathlib.Core.Bool.{false}
 use mathlib.Core.List.{List, [], _∷_}
 use mathlib.Core.Logic.{_⊎_, ⊎-elim}
 use Prim.Native.Nat.{ℕ, zero, suc, _+_, _-_, _*_, _<_, _≤_}
 use native.Mathlib.Nat.{suc-mul}
 use native.Mathlib.Omega.{arith}
-use denote.Ref.{now}
-use lib.Dec.{ltb}
 use lib.ListN.{length, set, take, drop, length-set, length-drop}
 use borrow.Rule.Slice.PartMut.{same-len-mid}
 use Rattle.std.specs.Finite.{nth}
@@ -15,21 +13,20 @@ use Rattle.std.specs.declared.option.Option.{Option}
 use Rattle.std.specs.declared.option.Option.the-variants.{Some, None}
 use Rattle.std.proofs.shelf.Bits.{mul-le}
 use Rattle.std.proofs.shelf.Lists.{length-take-le}
-use Rattle.std.proofs.shelf.Tests.{cases-lt, cases-eq, or-parts, or-from, ltb-false, le-ltb, le-leb, cond-true}
-use Rattle.order.specs.Urgency.{Urgency, Lawful}
+use Rattle.std.proofs.shelf.Tests.{cases-eq, or-parts, or-from, ltb-false, le-ltb}
+use Rattle.order.specs.Urgency.{Urgency}
 use Rattle.model.specs.declared.Condition.{Condition}
-use Rattle.model.specs.Words.{Plan, State}
+use Rattle.model.specs.Words.{State}
 use Rattle.model.specs.Rules.{put}
-use Rattle.model.specs.Promise.{Accepted}
 use Rattle.model.proofs.Basics.{put-here, put-there, by-point}
 use Rattle.cluster.specs.declared.Entry.{Entry}
 use Rattle.cluster.specs.declared.Job.{Job}
-use Rattle.cluster.specs.Listing.{Listed, part, with-part, fits}
+use Rattle.cluster.specs.Listing.{Listed, part, with-part}
 use Rattle.cluster.specs.Claims.{Shows}
 use Rattle.cluster.specs.Picks.{read, condition-at, donor-at, recipient-at}
 use Rattle.cluster.proofs.Parting.{this-part, same-part, far-apart}
 use Rattle.arbiter.specs.declared.System.{System}
-use Rattle.arbiter.specs.Memory.{Contents, task-count, count-at, plan-of, with-condition, too-small, list-of}
+use Rattle.arbiter.specs.Memory.{Contents, task-count, count-at, plan-of, with-condition, too-small}
 use Rattle.arbiter.specs.Meaning.{Represents}
 
 nth-here : {A : Type 0} (xs : List A) (i : ℕ) (a : A) → i < length xs → nth (set xs i a) i ≡ Some a

@@ -1,7 +1,7 @@
 -- What the memory means: the state that it stands for, and the lists of calls by which it was reached.
 use mathlib.Core.Path.{_≡_}
-use mathlib.Core.Bool.{Bool, true, false}
-use mathlib.Core.List.{List, [], _∷_}
+use mathlib.Core.Bool.{false}
+use mathlib.Core.List.{List, _∷_}
 use Prim.Native.Nat.{ℕ, _<_, _≤_}
 use lib.ListN.{length}
 use Rattle.std.specs.Results.{isOk}
@@ -11,7 +11,7 @@ use Rattle.model.specs.declared.Condition.{Condition}
 use Rattle.model.specs.declared.Event.{Event}
 use Rattle.model.specs.declared.Answer.{Answer}
 use Rattle.model.specs.declared.Refusal.{Refusal}
-use Rattle.model.specs.Words.{Plan, State}
+use Rattle.model.specs.Words.{State}
 use Rattle.model.specs.Rules.{Question, ScheduledSet, ConditionOf, Call, Act, Ask, after, answer, scheduled-answer, condition-answer}
 use Rattle.model.specs.Promise.{Accepted, Kept}
 use Rattle.cluster.specs.Listing.{Listed}

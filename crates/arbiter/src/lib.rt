@@ -1,7 +1,6 @@
 // The arbiter: which jobs run on which cluster of processors.
 ghost use mathlib.Core.Path.{_≡_};
-ghost use mathlib.Core.Bool.{Bool, true, false};
-ghost use Prim.Native.Nat.{ℕ, _*_, _<_, _≤_};
+ghost use Prim.Native.Nat.{_≤_};
 ghost use lib.ListN.{length, replicate};
 ghost use Rattle.arbiter.specs.Memory.{contents, SameLoans, tables, «count-at» as CountAt, «cluster-at» as ClusterAt, «parameter-at» as ParameterAt, «task-count» as TaskCountOf, «too-small» as TooSmall, running, «in-set» as InSet, becoming, «with-entry» as WithEntry, «without-entry» as WithoutEntry, «turned-away» as TurnedAway, stored, replied, afterwards, «asked-set» as AskedSetOf};
 ghost use Rattle.arbiter.specs.SetUp.{absent, unfit, «idle-job» as IdleJob, unaccepted, SetUp};

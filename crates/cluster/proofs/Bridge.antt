@@ -1,15 +1,12 @@
 -- What a list of a cluster's pending jobs says of the words that count
-use mathlib.Core.Path.{_≡_, refl, sym, ap, _∙_, subst}
-use mathlib.Core.Bool.{Bool, true, false, cond, not, _&&_, _||_}
+use mathlib.Core.Path.{_≡_, refl, sym, ap, _∙_}
+use mathlib.Core.Bool.{Bool, true, false, _&&_}
 use mathlib.Core.List.{List, [], _∷_}
-use mathlib.Core.Logic.{_⊎_, inl, inr, ⊎-elim}
-use Prim.Native.Nat.{ℕ, zero, suc, _+_, _-_, _<_, _≤_}
+use Prim.Native.Nat.{ℕ, _-_, _<_}
 use native.Mathlib.Omega.{arith}
 use lib.Dec.{eqb, ltb}
 use lib.ListN.{length, getD, take}
-use Rattle.std.specs.declared.option.Option.{Option}
-use Rattle.std.specs.declared.option.Option.the-variants.{Some, None}
-use Rattle.std.proofs.shelf.Tests.{cases-bool, cases-eq, cases-lt, and-parts, and-from, and-left, and-right, or-left, or-right, both-ways, eqb-true, eq-eqb, ne-eqb}
+use Rattle.std.proofs.shelf.Tests.{and-parts, and-from, or-left, or-right, eqb-true, eq-eqb}
 use Rattle.cluster.specs.declared.Entry.{Entry}
 use Rattle.ordered.specs.Ranks.{Sorted, Leads}
 use Rattle.model.specs.Tally.{tally}
@@ -17,8 +14,6 @@ use Rattle.order.specs.Urgency.{Lawful}
 use Rattle.cluster.specs.Listing.{has}
 use Rattle.model.specs.Words.{Plan, State, pending, goes, ahead, foremost}
 use Rattle.model.proofs.Count.{tally-same}
-use Rattle.model.proofs.Rank.{Ordered}
-use Rattle.model.proofs.Basics.{cases-opt}
 use Rattle.model.proofs.Schedule.{ordered}
 use Rattle.cluster.specs.Listing.{Listed, tasks-of, Marked, urgent}
 use Rattle.cluster.proofs.Line.{Lines, has-read, rank-at, at-rank, count-line, fore-is}

@@ -1,12 +1,11 @@
 -- The ready jobs of a cluster, by the places at which they count
 use mathlib.Core.Path.{_≡_, refl, sym, ap, _∙_, subst}
-use mathlib.Core.Bool.{Bool, true, false, cond, not, _&&_, _||_}
+use mathlib.Core.Bool.{Bool, true, false, cond, _&&_}
 use mathlib.Core.List.{List, [], _∷_}
-use mathlib.Core.Logic.{_⊎_, inl, inr, ⊎-elim}
-use Prim.Native.Nat.{ℕ, zero, suc, _+_, _-_, _<_, _≤_}
-use native.Mathlib.Omega.{arith}
+use mathlib.Core.Logic.{_⊎_, ⊎-elim}
+use Prim.Native.Nat.{ℕ, _-_, _<_}
 use lib.Dec.{eqb, ltb}
-use lib.ListN.{length, getD, take}
+use lib.ListN.{take}
 use Rattle.std.specs.declared.option.Option.{Option}
 use Rattle.std.specs.declared.option.Option.the-variants.{Some, None}
 use Rattle.std.proofs.shelf.Tests.{cases-bool, cases-eq, and-parts, and-from, and-left, and-right, or-cases, or-left, or-right, both-ways, eqb-true, eq-eqb, ne-eqb, cond-true, cond-false, not-true, not-from-false}
@@ -15,15 +14,13 @@ use Rattle.ordered.specs.Ranks.{Sorted, Leads}
 use Rattle.model.specs.Tally.{tally}
 use Rattle.order.specs.Urgency.{Lawful}
 use Rattle.cluster.specs.Listing.{has}
-use Rattle.model.specs.declared.Condition.{Condition}
-use Rattle.model.specs.Words.{Plan, State, is-pending, holds, is-open, runs, on, is-some, or-else, pending, goes, ready, place, scheduled}
-use Rattle.model.proofs.Basics.{cases-opt, none-some, some-same}
+use Rattle.model.specs.Words.{Plan, State, holds, runs, on, is-some, or-else, pending, goes, ready, place, scheduled}
+use Rattle.model.proofs.Basics.{none-some, some-same}
 use Rattle.model.proofs.Conditions.{runs-pending, holds-open, runs-open-holds}
-use Rattle.model.proofs.Schedule.{ordered}
 use Rattle.cluster.specs.Picks.{pick, chosen, cons-some}
 use Rattle.cluster.specs.Listing.{Listed, tasks-of}
 use Rattle.cluster.specs.Claims.{Tied}
-use Rattle.cluster.proofs.Line.{Lines, leads-has, fore-is}
+use Rattle.cluster.proofs.Line.{Lines, fore-is}
 use Rattle.cluster.proofs.Bridge.{line, tally-mates, and-one}
 
 -- a line of picks

@@ -1,14 +1,12 @@
 -- A job leaves its cluster's list
-use mathlib.Core.Path.{_≡_, refl, sym, ap, _∙_, subst}
-use mathlib.Core.Bool.{Bool, true, false, _&&_}
-use mathlib.Core.List.{List, [], _∷_, _++_}
-use Prim.Native.Nat.{ℕ, _+_, _-_, _<_, _≤_}
+use mathlib.Core.Path.{_≡_, refl, _∙_}
+use mathlib.Core.Bool.{true}
+use mathlib.Core.List.{List}
+use Prim.Native.Nat.{ℕ, _-_, _<_, _≤_}
 use native.Mathlib.Omega.{arith}
-use lib.Dec.{eqb}
-use lib.ListN.{length, getD, take, drop}
+use lib.ListN.{length, take}
 use Rattle.std.specs.Holes.{removed}
-use Rattle.std.proofs.shelf.Edits.{length-removed}
-use Rattle.std.proofs.shelf.Lists.{take-at, length-take-le}
+use Rattle.std.proofs.shelf.Lists.{length-take-le}
 use Rattle.std.proofs.shelf.Tests.{and-from, eq-eqb}
 use Rattle.cluster.specs.declared.Entry.{Entry}
 use Rattle.ordered.specs.Ranks.{found}

@@ -2,29 +2,28 @@
 use mathlib.Core.Path.{_≡_, refl, sym, ap, _∙_, subst}
 use mathlib.Core.Bool.{Bool, true, false, cond, not, _&&_, _||_}
 use mathlib.Core.List.{List, [], _∷_}
-use mathlib.Core.Logic.{_⊎_, inl, inr, ⊎-elim}
-use Prim.Native.Nat.{ℕ, zero, suc, _+_, _-_, _<_, _≤_}
+use mathlib.Core.Logic.{_⊎_, ⊎-elim}
+use Prim.Native.Nat.{ℕ, zero, suc, _-_, _<_}
 use native.Mathlib.Omega.{arith}
-use lib.Dec.{eqb, ltb}
-use lib.ListN.{length, getD, take, drop}
+use lib.Dec.{eqb}
+use lib.ListN.{length, getD}
 use Rattle.std.specs.Holes.{removed}
 use Rattle.std.proofs.shelf.Tests.{cases-bool, cases-eq, and-parts, and-from, and-left, and-right, or-cases, or-parts, or-left, or-right, both-ways, eqb-true, eqb-false, eq-eqb, ne-eqb, not-from-true, not-from-false, cond-true, cond-false}
 use Rattle.cluster.specs.declared.Entry.{Entry}
-use Rattle.ordered.specs.Ranks.{Ranks, Sorted, Leads, Fresh, ranked, found, first}
+use Rattle.ordered.specs.Ranks.{Ranks, Sorted, Fresh, ranked, found}
 use Rattle.ordered.proofs.Sortedness.{ranked-sorted, removed-sorted}
 use Rattle.order.specs.Urgency.{Lawful}
 use Rattle.cluster.specs.Listing.{has}
 use Rattle.model.specs.Tally.{tally}
-use Rattle.model.specs.declared.Condition.{Condition}
-use Rattle.model.specs.declared.Condition.the-variants.{Idle, Computing}
+use Rattle.model.specs.declared.Condition.the-variants.{Idle}
 use Rattle.model.specs.Words.{Plan, State, is-pending, pending, goes}
-use Rattle.model.specs.Rules.{put, arrive, become}
+use Rattle.model.specs.Rules.{arrive, become}
 use Rattle.model.proofs.Count.{tally-all, tally-more}
 use Rattle.model.proofs.Basics.{put-here, put-there}
 use Rattle.model.proofs.Schedule.{ordered}
 use Rattle.cluster.specs.Listing.{Listed, tasks-of, Marked, urgent}
-use Rattle.cluster.proofs.Line.{Lines, has-read, leads-has, fresh}
-use Rattle.cluster.proofs.Bridge.{line, mine, count-is}
+use Rattle.cluster.proofs.Line.{has-read, leads-has, fresh}
+use Rattle.cluster.proofs.Bridge.{line, count-is}
 
 or-swap : (a b c : Bool) → (a || (b || c)) ≡ (b || (a || c))
 or-swap true true c = refl

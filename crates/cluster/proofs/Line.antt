@@ -1,13 +1,13 @@
 -- The place of a task in a line is the count of those that go before it
-use mathlib.Core.Path.{_≡_, refl, sym, ap, _∙_, subst}
-use mathlib.Core.Bool.{Bool, true, false, cond, not, _&&_, _||_}
+use mathlib.Core.Path.{_≡_, refl, sym, ap, _∙_}
+use mathlib.Core.Bool.{Bool, true, false, cond, _&&_, _||_}
 use mathlib.Core.List.{List, [], _∷_}
-use mathlib.Core.Logic.{_⊎_, inl, inr, ⊎-elim}
+use mathlib.Core.Logic.{_⊎_, ⊎-elim}
 use Prim.Native.Nat.{ℕ, zero, suc, _+_, _-_, _<_, _≤_}
 use native.Mathlib.Omega.{arith}
 use lib.Dec.{eqb, ltb}
 use lib.ListN.{length, getD, take}
-use Rattle.std.proofs.shelf.Tests.{cases-bool, cases-eq, and-parts, and-from, and-left, and-right, or-cases, or-left, or-right, or-from, ltb-true, ltb-false, lt-ltb, le-ltb, both-ways, eqb-true, eq-eqb, ne-eqb, cases-lt}
+use Rattle.std.proofs.shelf.Tests.{cases-bool, cases-eq, and-from, and-left, and-right, or-cases, or-left, or-right, lt-ltb, le-ltb, both-ways, eqb-true, eq-eqb, ne-eqb, cases-lt}
 use Rattle.std.proofs.shelf.Maps.{nth-getD}
 use Rattle.ordered.specs.Ranks.{Sorted, Leads, passing}
 use Rattle.ordered.proofs.Counts.{standing-rank}

@@ -1,19 +1,14 @@
 -- The steps of the loops over a list of entries
 use mathlib.Core.Path.{_≡_, refl, sym, ap, _∙_}
-use mathlib.Core.Bool.{Bool, true, false, _||_}
 use mathlib.Core.List.{List, [], _∷_}
 use Prim.Native.Nat.{ℕ, zero, suc, _+_, _-_, _<_, _≤_}
-use native.Mathlib.Omega.{arith}
 use native.Mathlib.Numerals.{sub-one}
-use lib.Dec.{eqb}
 use lib.Bits.{bitOr}
 use lib.ListN.{length, getD, take, drop}
 use Rattle.std.specs.declared.option.Option.{Option}
 use Rattle.std.specs.declared.option.Option.the-variants.{Some, None}
-use Rattle.std.proofs.shelf.Tests.{or-left, eq-eqb, ne-eqb}
 use Rattle.std.proofs.shelf.Lists.{at-drop-more, at-drop-all}
 use Rattle.cluster.specs.declared.Entry.{Entry}
-use Rattle.cluster.specs.Listing.{has}
 use Rattle.cluster.specs.Picks.{chosen, cons-some, bit, joined}
 use Rattle.cluster.specs.Listing.{tasks-of}
 

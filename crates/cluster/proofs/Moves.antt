@@ -5,14 +5,14 @@ use mathlib.Core.List.{List, [], _∷_, _++_}
 use mathlib.Core.Logic.{⊎-elim}
 use Prim.Native.Nat.{ℕ, zero, suc, _+_, _-_, _<_, _≤_}
 use native.Mathlib.Omega.{arith}
-use lib.Dec.{eqb, ltb, leb}
+use lib.Dec.{ltb, leb}
 use lib.ListN.{length, take, drop, length-drop, length-append}
 use borrow.Rule.Slice.PartMut.{putMid}
 use Rattle.std.specs.declared.option.Option.{Option}
 use Rattle.std.specs.declared.option.Option.the-variants.{Some, None}
 use Rattle.std.specs.Finite.{nth}
 use Rattle.std.specs.Holes.{removed}
-use Rattle.std.proofs.shelf.Lists.{take-at, take-all, length-take-le}
+use Rattle.std.proofs.shelf.Lists.{take-all, length-take-le}
 use Rattle.std.proofs.shelf.Tests.{cases-bool, cases-lt, ltb-true, leb-true, lt-ltb, le-ltb, cond-true, cond-false, and-from, and-parts, le-leb}
 use Rattle.std.proofs.shelf.Edits.{length-removed}
 use Rattle.ordered.proofs.Fronts.{length-ranked, ranked-front, closed-front}
@@ -20,10 +20,9 @@ use Rattle.order.specs.Urgency.{Lawful}
 use Rattle.ordered.specs.Ranks.{ranked, found}
 use Rattle.ordered.specs.Places.{held, taken, closed}
 use Rattle.model.specs.declared.Condition.the-variants.{Idle}
-use Rattle.model.specs.Words.{Plan, State, pending}
 use Rattle.model.specs.Rules.{arrive, become}
 use Rattle.cluster.specs.declared.Entry.{Entry}
-use Rattle.cluster.specs.Listing.{Listed, urgent, part, with-part, fits, entered, entered-count, departed, departed-count}
+use Rattle.cluster.specs.Listing.{Listed, urgent, part, fits, entered, entered-count, departed, departed-count}
 use Rattle.cluster.specs.Claims.{ListedOnArrival, ListedOnLeaving, Entering, Departing}
 use Rattle.cluster.proofs.Keep.{listed-arrive, room}
 use Rattle.cluster.proofs.Parting.{written, here, elsewhere, part-length}

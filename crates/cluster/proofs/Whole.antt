@@ -1,24 +1,21 @@
 -- The answers of the code, for whatever the memory is sound for
 use mathlib.Core.Path.{_≡_, refl, sym, ap, _∙_, subst, fun-ext}
-use mathlib.Core.Bool.{Bool, true, false, cond, not, _&&_, _||_}
+use mathlib.Core.Bool.{Bool, true, false, _||_}
 use mathlib.Core.List.{List, [], _∷_}
-use mathlib.Core.Logic.{_⊎_, inl, inr, ⊎-elim}
-use Prim.Native.Nat.{ℕ, zero, suc, _+_, _-_, _<_, _≤_, _^_}
+use Prim.Native.Nat.{ℕ, zero, suc, _-_, _<_, _^_}
 use native.Mathlib.Omega.{arith}
 use lib.Dec.{eqb, ltb}
 use lib.Bits.{bitOr}
-use lib.ListN.{length, getD, take, drop}
-use Rattle.std.specs.declared.option.Option.{Option}
-use Rattle.std.specs.declared.option.Option.the-variants.{Some, None}
-use Rattle.std.proofs.shelf.Tests.{cases-bool, or-left, or-right, eq-eqb, lt-ltb, cond-true}
+use lib.ListN.{take}
+use Rattle.std.proofs.shelf.Tests.{or-left, or-right, eq-eqb, lt-ltb, cond-true}
 use Rattle.cluster.specs.declared.Entry.{Entry}
 use Rattle.order.specs.Urgency.{Lawful}
 use Rattle.cluster.specs.Listing.{has}
-use Rattle.model.specs.Words.{Plan, State, members, scheduled}
+use Rattle.model.specs.Words.{members}
 use Rattle.cluster.specs.declared.Job.{Job}
-use Rattle.cluster.specs.Picks.{pick, pick-at, condition-at, donor-at, recipient-at, chosen, bit, joined, picked-set}
-use Rattle.cluster.specs.Listing.{Listed, tasks-of}
-use Rattle.cluster.specs.Claims.{Shows, Tied, IsScheduled}
+use Rattle.cluster.specs.Picks.{pick, pick-at, donor-at, recipient-at, chosen, bit, joined, picked-set}
+use Rattle.cluster.specs.Listing.{tasks-of}
+use Rattle.cluster.specs.Claims.{IsScheduled}
 use Rattle.cluster.proofs.Line.{has-front}
 use Rattle.cluster.proofs.Choose.{chosen-within, scheduled-is}
 use Rattle.cluster.proofs.Bits.{members-same, members-more}

@@ -1,12 +1,11 @@
 -- Counting by maps that are one to one.
 use mathlib.Core.Path.{_≡_, refl, sym, ap, _∙_}
 use mathlib.Core.Bool.{Bool, true, false, cond, not, _&&_}
-use mathlib.Core.Logic.{_⊎_, inl, inr, ⊎-elim}
-use Prim.Native.Nat.{ℕ, zero, suc, _+_, _*_, _<_, _≤_}
-use native.Mathlib.Nat.{suc-mul}
+use mathlib.Core.Logic.{_⊎_, ⊎-elim}
+use Prim.Native.Nat.{ℕ, zero, suc, _+_, _<_, _≤_}
 use native.Mathlib.Omega.{arith}
 use lib.Dec.{eqb}
-use Rattle.std.proofs.shelf.Tests.{cases-bool, cases-eq, and-parts, and-from, and-left, eqb-true, eqb-false, eq-eqb, ne-eqb, cond-true, cond-false, both-ways, not-from-true, not-from-false, not-true}
+use Rattle.std.proofs.shelf.Tests.{cases-bool, cases-eq, and-left, eq-eqb, ne-eqb, both-ways, not-from-true}
 use Rattle.model.specs.Tally.{tally}
 
 -- 1 for a test that passes

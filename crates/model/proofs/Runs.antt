@@ -1,6 +1,6 @@
 -- Every list of calls since an accepted set-up keeps the promise.
-use mathlib.Core.Path.{_≡_, refl, sym, ap, _∙_, subst}
-use mathlib.Core.Bool.{Bool, true, false, cond, not}
+use mathlib.Core.Path.{_≡_, refl, sym, ap, _∙_}
+use mathlib.Core.Bool.{cond, not}
 use mathlib.Core.Logic.{⊎-elim}
 use mathlib.Core.List.{List, [], _∷_}
 use Prim.Native.Nat.{ℕ, _<_, _≤_}
@@ -9,7 +9,7 @@ use lib.Dec.{ltb}
 use Rattle.std.specs.declared.option.Option.{Option}
 use Rattle.std.specs.declared.option.Option.the-variants.{Some, None}
 use Rattle.std.proofs.shelf.Tests.{cases-lt, le-ltb, cond-true, not-from-false}
-use Rattle.order.specs.Urgency.{Urgency, Lawful}
+use Rattle.order.specs.Urgency.{Lawful}
 use Rattle.model.specs.declared.Condition.{Condition}
 use Rattle.model.specs.declared.Condition.the-variants.{Idle, Computing}
 use Rattle.model.specs.declared.Event.{Event}
@@ -17,7 +17,7 @@ use Rattle.model.specs.declared.Event.the-variants.{Release, Finish}
 use Rattle.model.specs.declared.Refusal.{Refusal}
 use Rattle.model.specs.Words.{Plan, State, is-pending, runs}
 use Rattle.model.specs.Rules.{Call, Act, Ask, put, start, refusal, moved, act, after, kept-if}
-use Rattle.model.specs.Promise.{Kept, Promise}
+use Rattle.model.specs.Promise.{Kept}
 use Rattle.model.proofs.Basics.{put-here, put-there, by-point}
 use Rattle.model.proofs.Schedule.{Plain, served}
 
@@ -65,6 +65,3 @@ module _ {Mark : Type 0} (P : Plan Mark) where
   pub kept : Lawful (P .order .before) → (calls : List Call) → Kept P calls
   kept law [] = served P (after P []) (plain-after []) law
   kept law (x ∷ xs) = (served P (after P (x ∷ xs)) (plain-after (x ∷ xs)) law, kept law xs)
-
-pub promise : {Mark : Type 0} (order : Urgency Mark) → Lawful (order .before) → Promise order
-promise {Mark = Mark} order law P e ok calls = kept P (subst (λ (o : Urgency Mark). Lawful (o .before)) (sym e) law) calls

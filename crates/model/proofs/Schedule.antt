@@ -5,11 +5,9 @@ use mathlib.Core.Logic.{⊎-elim}
 use Prim.Native.Nat.{ℕ, _<_, _≤_}
 use native.Mathlib.Omega.{arith}
 use lib.Dec.{eqb, ltb}
-use Rattle.std.specs.declared.option.Option.{Option}
-use Rattle.std.specs.declared.option.Option.the-variants.{Some, None}
-use Rattle.std.proofs.shelf.Tests.{cases-bool, cases-lt, both-ways, and-parts, and-from, and-right, eq-eqb, eqb-true, ltb-true}
-use Rattle.order.specs.Urgency.{Urgency, Lawful}
-use Rattle.model.specs.declared.Condition.{Condition}
+use Rattle.std.specs.declared.option.Option.the-variants.{None}
+use Rattle.std.proofs.shelf.Tests.{cases-lt, both-ways, and-parts, and-from, and-right, eq-eqb, eqb-true, ltb-true}
+use Rattle.order.specs.Urgency.{Lawful}
 use Rattle.model.specs.declared.Condition.the-variants.{Idle}
 use Rattle.model.specs.Tally.{tally}
 use Rattle.model.specs.Words.{Plan, State, is-pending, holds, runs, or-else, on, pending, goes, ahead, foremost, ready, place, precedes, scheduled}

@@ -1,10 +1,9 @@
 -- What is promised of every list of calls since an accepted set-up.
 use mathlib.Core.Path.{_≡_}
-use mathlib.Core.Bool.{Bool, true, _&&_}
+use mathlib.Core.Bool.{true, _&&_}
 use mathlib.Core.List.{List, [], _∷_}
 use Prim.Native.Nat.{ℕ, _<_, _≤_}
 use lib.Dec.{eqb}
-use Rattle.order.specs.Urgency.{Urgency, Lawful}
 use Rattle.model.specs.Tally.{tally}
 use Rattle.model.specs.Words.{Plan, State, ready, foremost, scheduled}
 use Rattle.model.specs.Rules.{Call, after}
@@ -30,7 +29,3 @@ pub record Served {Mark : Type 0} (P : Plan Mark) (s : State Mark) : Type 0 wher
 abbrev pub Kept : {Mark : Type 0} → Plan Mark → List Call → Type 0
 Kept P [] = Served P (after P [])
 Kept P (x ∷ xs) = Served P (after P (x ∷ xs)) × Kept P xs
-
--- the promise under an order: every accepted set-up keeps it over every list of calls
-abbrev pub Promise : {Mark : Type 0} → Urgency Mark → Type 0
-Promise {Mark} order = (P : Plan Mark) → P .order ≡ order → Accepted P → (calls : List Call) → Kept P calls

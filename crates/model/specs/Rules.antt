@@ -1,6 +1,6 @@
 -- The rules: what each call answers and what it makes of the jobs.
 use mathlib.Core.List.{List, [], _∷_}
-use mathlib.Core.Bool.{Bool, true, false, cond, not}
+use mathlib.Core.Bool.{Bool, cond, not}
 use Prim.Native.Nat.{ℕ}
 use lib.Dec.{ltb, eqb}
 use Rattle.std.specs.declared.option.Option.{Option}

@@ -1,5 +1,5 @@
-use mathlib.Core.Path.{_≡_, sym, ap, _∙_}
-use Prim.Native.Nat.{ℕ, _+_}
+use mathlib.Core.Path.{sym, ap, _∙_}
+use Prim.Native.Nat.{_+_}
 use lib.Bits.{bitOr}
 use lib.ListN.{take, drop}
 use Rattle.cluster.specs.Picks.{chosen, bit, joined, pick-at}

@@ -1,6 +1,6 @@
 use mathlib.Core.Path.{_≡_}
 use lib.ListN.{drop, take}
-use Rattle.cluster.specs.Picks.{chosen, bit, joined, pick-at}
+use Rattle.cluster.specs.Picks.{chosen, joined, pick-at}
 use Rattle.cluster.specs.Listing.{tasks-of}
 use Rattle.cluster.proofs.first_picked.Given as given
 

@@ -1,4 +1,4 @@
-use mathlib.Core.Path.{_≡_, sym, ap, _∙_}
+use mathlib.Core.Path.{_≡_, _∙_}
 use lib.ListN.{length}
 use Rattle.std.proofs.shelf.Lists.{refilled-is}
 use Rattle.replay.proofs.Whole.{ran-all}

@@ -1,14 +1,11 @@
 use mathlib.Core.Path.{_≡_, sym, ap, _∙_}
-use mathlib.Core.List.{List, []}
 use Rattle.std.specs.declared.option.Option.the-variants.{Some, None}
 use Rattle.std.specs.Of.String.{string-bytes}
-use Rattle.std.specs.Of.Vec.{vec-items}
 use Rattle.std.proofs.shelf.Results.{made-weaker}
-use Rattle.arbiter.specs.declared.Outcome.{Outcome}
 use Rattle.scenario.specs.Loading.{script-view}
 use Rattle.model.specs.Rules.{start}
-use Rattle.arbiter.specs.Memory.{Tables, Contents, tables, said, plan-by}
-use Rattle.arbiter.specs.Outcomes.{eight, outcomes}
+use Rattle.arbiter.specs.Memory.{Contents, tables, said}
+use Rattle.arbiter.specs.Outcomes.{eight}
 use Rattle.arbiter.proofs.Starts.{granted}
 use Rattle.replay.specs.declared.Cause.the-variants.{SetUp}
 use Rattle.replay.specs.Trace.{tables-of, refused, system-text, run-text, ran-unless, ending, stopped-after}

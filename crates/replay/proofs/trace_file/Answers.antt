@@ -1,4 +1,3 @@
-use mathlib.Core.Path.{_≡_, sym, ap, _∙_}
 use borrow.Author.Needs.{needs}
 use Rattle.order.specs.Supplied.{earliest-deadline, level}
 use Rattle.order.proofs.Laws.{earliest-lawful, level-lawful}

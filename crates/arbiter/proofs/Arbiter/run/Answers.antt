@@ -1,6 +1,6 @@
 use mathlib.Core.Path.{_≡_, _∙_}
 use native.Mathlib.Omega.{arith}
-use Prim.Native.Nat.{min, _<_}
+use Prim.Native.Nat.{_<_}
 use lib.ListN.{length}
 use Rattle.arbiter.specs.Memory.{contents}
 use Rattle.arbiter.proofs.Runs.{run-step, write-step, ran}
