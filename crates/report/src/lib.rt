@@ -72,7 +72,7 @@ fn push_sets(text: &mut String, heap: Global, sets: &[u64]) -> Result<(), AllocE
     Ok(())
 }
 
-// The line of one event: its number, kind and task, its answer, and each cluster's set.
+/// The line of one event: its number, kind and task, its answer, and each cluster's set.
 pub fn push_line(
     text: &mut String,
     heap: Global,
@@ -93,7 +93,7 @@ pub fn push_line(
     Ok(())
 }
 
-// What the system is made of.
+/// What the system is made of.
 pub fn push_head(
     text: &mut String,
     heap: Global,
@@ -110,7 +110,7 @@ pub fn push_head(
     text.push_str(head.as_str())
 }
 
-// Why and where the file was read no further.
+/// Why and where the file was read no further.
 pub fn push_stop(
     text: &mut String,
     heap: Global,
@@ -123,7 +123,7 @@ pub fn push_stop(
     text.push_str(stop.as_str())
 }
 
-// A line for each event with its outcome, by place, of the first `clusters` of the outcome's sets.
+/// A line for each event with its outcome, by place, of the first `clusters` of the outcome's sets.
 pub fn push_lines(
     text: &mut String,
     heap: Global,

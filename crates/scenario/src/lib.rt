@@ -1,3 +1,4 @@
+// The scenario file: its records, their reader, and the loader that puts them together.
 ghost use mathlib.Core.Path.{_≡_};
 ghost use Rattle.std.specs.Vec.{made};
 ghost use Rattle.scenario.specs.Format.{«fault-number» as FaultNumber, record-at, split-view, next-at, place-after, part-view};
@@ -8,7 +9,7 @@ use model::Task;
 use std::alloc::AllocError;
 use std::alloc::Global;
 
-// What a scenario says of the system as a whole.
+/// What a scenario says of the system as a whole.
 #[derive(Clone, Copy, PartialEq, Eq, Debug)]
 pub struct Header {
     pub clusters: u8,
@@ -16,7 +17,7 @@ pub struct Header {
     pub order: u8,
 }
 
-// One record of a scenario file.
+/// One record of a scenario file.
 #[derive(Clone, Copy)]
 pub enum Record {
     Header(Header),
@@ -24,19 +25,20 @@ pub enum Record {
     Event(Event),
 }
 
-// Why a file's records are read no further.
+/// Why a file's records are read no further.
 #[derive(Clone, Copy, PartialEq, Eq, Debug)]
 pub enum Fault {
     UnknownKind,
-    // The file ends inside the record.
+    /// The file ends inside the record.
     CutShort,
-    // No header at the start, or a header elsewhere.
+    /// No header at the start, or a header elsewhere.
     HeaderMisplaced,
-    // A task after the first event.
+    /// A task after the first event.
     TooLate,
 }
 
 impl Fault {
+    /// The number of the fault.
     pub fn number(self) -> u8
         ensures { λ r. ⌜ r ≡ FaultNumber self ⌝ }
     {
@@ -49,14 +51,14 @@ impl Fault {
     }
 }
 
-// A fault and the place of its record in the file.
+/// A fault and the place of its record in the file.
 #[derive(Clone, Copy, PartialEq, Eq, Debug)]
 pub struct Stop {
     pub fault: Fault,
     pub at: usize,
 }
 
-// A record as a part of the file, with its place.
+/// A record as a part of the file, with its place.
 #[derive(Clone, Copy)]
 pub struct Part<'a> {
     pub at: usize,
@@ -103,7 +105,7 @@ fn split(bytes: &[u8]) -> Result<(Record, &[u8]), Fault>
     }
 }
 
-// Hands out a file's records in turn, as parts of the file.
+/// Hands out a file's records in turn, as parts of the file.
 #[derive(Drop)]
 pub struct Reader<'a> {
     pub file: &'a [u8],
@@ -111,6 +113,7 @@ pub struct Reader<'a> {
 }
 
 impl<'a> Reader<'a> {
+    /// A reader at the start of a file.
     pub fn new(file: &'a [u8]) -> Reader<'a>
         ensures file { λ r. ⌜ now (r .file) ≡ now (file .entry) ⌝ }
         ensures at { λ r. ⌜ r .at ≡ 0 ⌝ }
@@ -118,7 +121,7 @@ impl<'a> Reader<'a> {
         Reader { file, at: 0 }
     }
 
-    // The next record, or None at the end; a fault does not move the reader.
+    /// The next record, or None at the end; a fault does not move the reader.
     pub fn next(&mut self) -> Result<Option<Part<'a>>, Fault>
         ensures part { λ r. ⌜ part-view r ≡ next-at (now (now (self .entry) .file)) (now (self .entry) .at) ⌝ }
         ensures file { λ _. ⌜ now (now (self .exit) .file) ≡ now (now (self .entry) .file) ⌝ }
@@ -136,13 +139,13 @@ impl<'a> Reader<'a> {
     }
 }
 
-// What a file says, up to its end or to its first fault.
+/// What a file says, up to its end or to its first fault.
 #[derive(Drop)]
 pub struct Script {
     pub header: Option<Header>,
     pub tasks: Vec<Task>,
     pub events: Vec<Event>,
-    // The place of the first event, or the file's length.
+    /// The place of the first event, or the file's length.
     pub start: usize,
     pub stop: Option<Stop>,
 }
@@ -202,7 +205,7 @@ impl Script {
     }
 }
 
-// Takes the records of a file in turn, up to its end or to the first fault.
+/// Takes the records of a file in turn, up to its end or to the first fault.
 pub fn load(heap: Global, file: &[u8]) -> Result<Script, AllocError>
     ensures script { λ r. ⌜ made r (λ s. script-view s ≡ loaded (now (file .entry))) ⌝ }
     ensures back { λ r. ⌜ made r (λ s. Reads-back (now (file .entry)) (script-view s)) ⌝ }
