@@ -1,0 +1,11 @@
+pub mod Words
+pub mod Numbers
+pub mod Model
+pub mod Laws
+pub mod Waits
+pub mod Fifo
+pub mod PhaseFair
+pub mod Kinds
+pub mod Views
+pub mod Rules
+pub mod Examples
