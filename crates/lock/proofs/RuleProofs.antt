@@ -10,15 +10,15 @@ use lib.ListN.{length, take, drop, length-take}
 use Rattle.std.specs.declared.result.Result.{Result}
 use Rattle.std.specs.declared.result.Result.the-variants.{Ok, Err}
 use Rattle.std.proofs.shelf.Lists.{drop-append-le, drop-drop}
-use Rattle.std.proofs.shelf.Tests.{or-left, not-true, and-right, and-from, ne-eqb, true≢false, cases-lt, cases-eq, lt-ltb, le-ltb, ltb-true, ltb-false, cond-true, cond-false, and-parts, eq-eqb, eqb-true, false≢true, both-ways}
+use Rattle.std.proofs.shelf.Tests.{or-left, or-right, not-true, and-right, and-from, ne-eqb, true≢false, cases-lt, cases-eq, lt-ltb, le-ltb, ltb-true, ltb-false, cond-true, cond-false, and-parts, eq-eqb, eqb-true, false≢true, both-ways}
 use Rattle.std.proofs.shelf.Ways.{tells}
 use Rattle.lock.specs.declared.Refusal.{Refusal}
 use Rattle.lock.specs.declared.Refusal.the-variants.{NoSuchKind, CountUnfit}
 use Rattle.lock.specs.declared.Reply.the-variants.{Granted, Waits, Declined}
-use Rattle.lock.specs.Words.{tally, has, index, distinct, removed, someone, first, less}
+use Rattle.lock.specs.Words.{tally, has, index, distinct, removed, someone, first, less, nobody}
 use Rattle.lock.specs.Model.{is-granted, queued, member, started}
 use Rattle.lock.specs.Fifo.{Fifo, FifoSound, fifo-holds, fifo-admits, fifo-reply, fifo-empty, mutex, replicas}
-use Rattle.lock.specs.PhaseFair.{Rw, RwSound, rw, rw-empty, Phase, idle, reading, writing, holds-in, wrote, mode-in, asked-in, reply-in, rest-in, ends-in, grants-in}
+use Rattle.lock.specs.PhaseFair.{Rw, RwSound, rw-admits, rw, rw-empty, Phase, idle, reading, writing, holds-in, wrote, mode-in, asked-in, reply-in, ended-in, next-writer, rest-in, ends-in, grants-in}
 use Rattle.lock.specs.Kinds.{Any, one, two, or-else, any}
 use Rattle.lock.specs.Rules.{FifoRules, PlacesRules, RwRules, SetUpRule, Rules, writer-holds, empty-of}
 use Rattle.lock.proofs.Count.{tally-same, tally-into, tally-all}
@@ -146,6 +146,40 @@ write-waits (reading s) [] rs t h = refl
 write-waits (reading s) (w ∷ ws) rs t h = refl
 write-waits (writing x) ws rs t h = refl
 
+-- a request that is admitted and does not read writes
+writes-mode : (l : Rw) (t m : ℕ) → rw-admits l t m ≡ true → eqb m 1 ≡ false → m ≡ 2
+writes-mode l t m e r = eqb-true m 2 (grind (arith, tells))
+
+row-kept : (ph : Phase) (ws : List ℕ) (rs : ℕ → Bool) (t : ℕ) (reads : Bool) → (reply-in ph ws reads ≡ Waits → reads ≡ false → ⊥) → asked-in ph ws rs t reads .writers ≡ ws
+row-kept idle ws rs t true h = refl
+row-kept idle ws rs t false h = refl
+row-kept (reading s) [] rs t true h = refl
+row-kept (reading s) (w ∷ ws) rs t true h = refl
+row-kept (reading s) [] rs t false h = absurd (h refl refl)
+row-kept (reading s) (w ∷ ws) rs t false h = absurd (h refl refl)
+row-kept (writing x) ws rs t true h = refl
+row-kept (writing x) ws rs t false h = absurd (h refl refl)
+
+-- the row after the turn of its first
+next-row : (ws : List ℕ) (rs : ℕ → Bool) → ((u : ℕ) → has ws u ≡ true → u < 64) → next-writer ws rs .writers ≡ cond (someone 64 (λ u. has ws u && first ws u)) (drop 1 ws) ws
+next-row [] rs lt = sym (cond-false _ _ _ (someone-none _ (λ u. refl)))
+next-row (w ∷ ws) rs lt = let y : has (w ∷ ws) w ≡ true = or-left (eqb w w) _ (eq-eqb w w refl) in
+    sym (cond-true _ _ _ (someone-at 64 (λ u. has (w ∷ ws) u && first (w ∷ ws) u) w (lt w y) (and-from _ _ y (and-from _ _ (eq-eqb w w refl) (lt-ltb w 64 (lt w y))))))
+
+row-moves : (ph : Phase) (ws : List ℕ) (rs : ℕ → Bool) (t : ℕ) → ((u : ℕ) → has ws u ≡ true → u < 64) → ((u : ℕ) → (has ws u && rs u) ≡ false) → holds-in ph t ≡ true
+    → ended-in ph ws rs t .writers ≡ cond (someone 64 (λ u. has ws u && grants-in ph ws rs t u)) (drop 1 ws) ws
+row-moves idle ws rs t lt apart h = absurd (false≢true h)
+row-moves (reading s) ws rs t lt apart h = go (someone 64 (less s t))
+  where
+    go : (b : Bool) → cond b (record { phase = reading (less s t); writers = ws; readers = rs }) (next-writer ws rs) .writers ≡ cond (someone 64 (λ u. has ws u && cond b false (first ws u))) (drop 1 ws) ws
+    go true = sym (cond-false _ _ _ (someone-none _ (λ u. and-right (has ws u) _ refl)))
+    go false = next-row ws rs lt
+row-moves (writing x) ws rs t lt apart h = go (someone 64 rs)
+  where
+    go : (b : Bool) → cond b (record { phase = reading rs; writers = ws; readers = nobody }) (next-writer ws rs) .writers ≡ cond (someone 64 (λ u. has ws u && cond b (rs u) (first ws u))) (drop 1 ws) ws
+    go true = sym (cond-false _ _ _ (someone-none _ apart))
+    go false = next-row ws rs lt
+
 read-in : (ph : Phase) (ws : List ℕ) (rs : ℕ → Bool) (p : ℕ → Bool) → rest-in ph ws rs → ((u : ℕ) → p u ≡ (wrote ph u || has ws u)) → ((u : ℕ) → p u ≡ true → u < 64) → is-granted (reply-in ph ws true) ≡ not (someone 64 p)
 read-in idle ws rs p r is lt = sym (ap not (someone-none p (λ u. is u ∙ ap (λ xs. has xs u) (r .0))))
 read-in (reading s) [] rs p r is lt = sym (ap not (someone-none p is))
@@ -207,6 +241,11 @@ rw-rules = record {
   waiting-writers = waiting-writers;
   waiting-readers = waiting-readers;
   writers-by-issue = λ l t. by-request l t 2 (λ x r. r ≡ Waits → x .writers ≡ l .writers ++ (t ∷ [])) (λ e. write-waits (l .phase) (l .writers) (l .readers) t) (λ h. let z : _≡_ {A = ℕ} 0 1 = cc in absurd (omega arith));
+  row-stays = λ l t m. by-request l t m (λ x r. (r ≡ Waits → m ≡ 2 → ⊥) → x .writers ≡ l .writers)
+      (λ e n. row-kept (l .phase) (l .writers) (l .readers) t (eqb m 1) (λ w r. n w (writes-mode l t m e r)))
+      (λ n. refl);
+  moves-up = λ l t g h. ap (λ b. cond b (ended-in (l .phase) (l .writers) (l .readers) t) l .writers) h
+      ∙ row-moves (l .phase) (l .writers) (l .readers) t (λ u y. small l u g (or-right _ _ (or-left _ _ y))) (λ u. let e = g .each u in grind (arith, tells)) h;
   shown = λ l. refl;
   read-at-issue = λ l t g h. ap is-granted (cond-true _ _ Declined (admitted _ _ _ h))
       ∙ read-in (l .phase) (l .writers) (l .readers) (λ u. member rw l u && eqb (rw .mode l u) 2) (g .rest) (λ u. writers-are l u g) (λ u y. small l u g (sym (mem l u g) ∙ and-parts (member rw l u) _ y .0));

@@ -56,8 +56,11 @@ pub record RwRules : Type 0 where
   -- the waiting writers and the waiting readers, by the modes that they asked for
   pub waiting-writers : (l : Rw) (u : ℕ) → RwSound l → has (l .writers) u ≡ (queued rw l u && eqb (rw .mode l u) 2)
   pub waiting-readers : (l : Rw) (u : ℕ) → RwSound l → l .readers u ≡ (queued rw l u && eqb (rw .mode l u) 1)
-  -- the list shows writers by issue, then readers by task number
+  -- writers wait by issue: a newcomer is last, no other request moves them, and a completion takes the first out if it grants a writer
   pub writers-by-issue : (l : Rw) (t : ℕ) → rw .reply l t 2 ≡ Waits → rw .requested l t 2 .writers ≡ l .writers ++ (t ∷ [])
+  pub row-stays : (l : Rw) (t m : ℕ) → (rw .reply l t m ≡ Waits → m ≡ 2 → ⊥) → rw .requested l t m .writers ≡ l .writers
+  pub moves-up : (l : Rw) (t : ℕ) → RwSound l → rw .holds l t ≡ true → rw .completed l t .writers ≡ cond (someone 64 (λ u. has (l .writers) u && rw .grants l t u)) (drop 1 (l .writers)) (l .writers)
+  -- the list shows writers by issue, then readers by task number
   pub shown : (l : Rw) → rw .list l ≡ l .writers ++ upto 64 (l .readers)
   -- a read is granted at issue exactly if no writer holds or waits, a write exactly if nobody holds
   pub read-at-issue : (l : Rw) (t : ℕ) → RwSound l → (rw .reply l t 1 ≡ Declined → ⊥) → is-granted (rw .reply l t 1) ≡ not (someone 64 (λ u. member rw l u && eqb (rw .mode l u) 2))
