@@ -58,9 +58,9 @@ pub fn fetch<A: Copy>(xs: &[A], i: u8) -> Option<A>
 pub fn store<A: Copy>(xs: &mut [A], i: u8, a: A)
     ensures { λ _. ⌜ now (xs .exit) ≡ set (now (xs .entry)) i a ⌝ }
 {
-    let at = usize::from(i);
-    if at < xs.len() {
-        xs[at] = a;
+    let place = usize::from(i);
+    if place < xs.len() {
+        xs[place] = a;
     }
 }
 

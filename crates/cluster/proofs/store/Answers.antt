@@ -4,6 +4,6 @@ use lib.ListN.{length}
 use Rattle.std.proofs.shelf.Lists.{set-past}
 use Rattle.cluster.proofs.store.Needs as need
 
-pub returns-else-at-xs : need.returns-else-at-xs
-returns-else-at-xs g c =
+pub returns-else-place-xs : need.returns-else-place-xs
+returns-else-place-xs g c =
     let h : length (c .args .xs .now) ≤ c .args .i = omega arith in let e = set-past (c .args .xs .now) (c .args .i) (c .args .a) h in cc
