@@ -1,3 +1,6 @@
-pub mod Views
+pub mod Replies
+pub mod Stores
+pub mod Steps
+pub mod Starts
 pub mod Scans
-pub mod Openings
+pub mod Runs

@@ -1,3 +1,4 @@
-pub mod Loans
+pub mod Memory
+pub mod Meaning
 pub mod SetUp
 pub mod Outcomes

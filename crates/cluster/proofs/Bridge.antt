@@ -1,19 +1,15 @@
 -- What a list of a cluster's pending jobs says of the words that count
-use Rattle.std.proofs.Common.{◌≡◌, ℕ, ◌-◌, ◌<◌, ◌≤◌, Bool, true, false, ◌&&◌, eqb, ltb, ◌⊎◌, List, [], ◌∷◌, length, get_or, take, Some, None, sym, refl, ap, ◌∙◌, ⊎_elim, arith}
-use Rattle.std.specs.List.{slice_get}
-use Rattle.std.proofs.lemmas.Option.{slice_get-get_or, slice_get_past}
-use Rattle.std.proofs.lemmas.Bool.{cases_lt, and_parts, and_from, or_left, or_right, eqb-true, eq-eqb}
+use Rattle.std.proofs.Common.{◌≡◌, ℕ, ◌-◌, ◌<◌, Bool, true, false, ◌&&◌, eqb, ltb, List, [], ◌∷◌, length, get_or, take, sym, refl, ap, ◌∙◌, arith}
+use Rattle.std.proofs.lemmas.Bool.{and_parts, and_from, or_left, or_right, eqb-true, eq-eqb}
 use Rattle.cluster.specs.declared.Entry.{Entry}
 use Rattle.ordered.specs.Ranks.{Sorted, Leads}
 use Rattle.model.specs.Tally.{tally}
 use Rattle.order.specs.Urgency.{Lawful}
 use Rattle.cluster.specs.Listing.{has}
-use Rattle.model.specs.Words.{Plan, State, pending, goes, ahead, foremost, ranked}
+use Rattle.model.specs.Words.{Plan, State, pending, goes, ahead, foremost}
 use Rattle.model.proofs.Count.{tally-same}
-use Rattle.model.proofs.Basics.{cases_opt}
-use Rattle.model.proofs.Orders.{ordered}
+use Rattle.model.proofs.Schedule.{ordered}
 use Rattle.cluster.specs.Listing.{Listed, tasks_of, Marked, urgent}
-use Rattle.cluster.proofs.Finds.{found, none_found}
 use Rattle.cluster.proofs.Line.{Lines, has-read, rank-at, at_rank, count-line, fore-is}
 
 pub and-twice : (a e b : Bool) → (a && (e && b)) ≡ ((a && e) && (e && b))
@@ -79,30 +75,3 @@ module _ {M : Type 0} (P : Plan M) (s : State M) (law : Lawful P.order.before) (
         ap (λ i. pending P s t && ltb i P.size) (ahead-is t c)
         ∙ (ap (λ b. b && ltb (tally P.tasks (λ u. (pending P s u && eqb (P.cluster u) k) && goes P s u t)) P.size) (and_one (pending P s t) ∙ ap (λ b. pending P s t && b) (sym (eq-eqb (P.cluster t) k c)))
         ∙ fore-is (goes P s) (ordered P law s).never (ordered P law s).carries P.tasks _ (tasks_of es) line li.within P.size t)
-
-    -- the pending job with just i ahead is the entry at i
-    pub ranked-is : (i : ℕ) → ranked P s k i ≡ slice_get (tasks_of es) i
-    ranked-is i = ⊎_elim
-        (λ (l : i < length (tasks_of es)).
-        let t = get_or (tasks_of es) i 0 in
-        let h = has-read (tasks_of es) i l in
-        let m = mine t h in
-        ⊎_elim
-        (λ (e : ranked P s k i ≡ None). absurd (none_found P.tasks _ e t (li.within t h) (and_from (pending P s t) _ m.0 (and_from (eqb (P.cluster t) k) _ (eq-eqb _ _ m.1) (eq-eqb _ _ (ahead-at i l))))))
-        (λ (e : (p : ℕ) × (ranked P s k i ≡ Some p)). e.1 ∙ (ap Some (stands e.0 e.1).1 ∙ sym (slice_get-get_or (tasks_of es) i 0 l)))
-        (cases_opt (ranked P s k i)))
-        (λ (l : length (tasks_of es) ≤ i). ⊎_elim
-        (λ (e : ranked P s k i ≡ None). e ∙ sym (slice_get_past (tasks_of es) i l))
-        (λ (e : (p : ℕ) × (ranked P s k i ≡ Some p)). let b : i < length (tasks_of es) = (stands e.0 e.1).0 in absurd (omega arith))
-        (cases_opt (ranked P s k i)))
-        (cases_lt i (length (tasks_of es)))
-      where
-        stands : (p : ℕ) → ranked P s k i ≡ Some p → (i < length (tasks_of es)) × (p ≡ get_or (tasks_of es) i 0)
-        stands p e =
-            let f = found P.tasks p _ e in
-            let a = and_parts (pending P s p) _ f.1 in
-            let b = and_parts (eqb (P.cluster p) k) _ a.1 in
-            let c : ahead P s p ≡ i = eqb-true _ _ b.1 in
-            let g = at_ahead p a.0 (eqb-true _ _ b.0) in
-            let l : ahead P s p < length (tasks_of es) = g.0 in
-            (omega arith, sym g.1 ∙ ap (λ j. get_or (tasks_of es) j 0) c)

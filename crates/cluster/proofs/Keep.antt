@@ -13,7 +13,7 @@ use Rattle.model.specs.Words.{Plan, State, is_pending, pending, goes}
 use Rattle.model.specs.Rules.{arrive, become}
 use Rattle.model.proofs.Count.{tally-all, tally-more}
 use Rattle.model.proofs.Basics.{put-here, put-there}
-use Rattle.model.proofs.Orders.{ordered}
+use Rattle.model.proofs.Schedule.{ordered}
 use Rattle.cluster.specs.Listing.{Listed, tasks_of, Marked, urgent}
 use Rattle.cluster.proofs.Line.{has-read, leads_has, fresh}
 use Rattle.cluster.proofs.Bridge.{line, count-is}

@@ -1,4 +1,3 @@
-pub mod Finds
 pub mod Line
 pub mod Bridge
 pub mod Keep

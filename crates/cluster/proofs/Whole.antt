@@ -9,10 +9,9 @@ use Rattle.cluster.specs.Listing.{has}
 use Rattle.model.specs.Words.{members}
 use Rattle.cluster.specs.declared.Job.{Job}
 use Rattle.cluster.specs.Picks.{pick, pick_at, donor_at, recipient_at, chosen, bit, joined, picked_set}
-use Rattle.cluster.specs.Listing.{tasks_of, among_first, entry_at}
-use Rattle.cluster.specs.Claims.{IsScheduled, IsForemost, IsRanked}
+use Rattle.cluster.specs.Listing.{tasks_of}
+use Rattle.cluster.specs.Claims.{IsScheduled}
 use Rattle.cluster.proofs.Line.{has-front}
-use Rattle.cluster.proofs.Bridge.{foremost-is, ranked-is}
 use Rattle.cluster.proofs.Choose.{chosen-within, scheduled-is}
 use Rattle.cluster.proofs.Bits.{members-same, members-more}
 
@@ -50,12 +49,3 @@ set_holds before law js es size P s k b c few shows tied li =
     ∙ (ap (λ x. joined x ts) (sym (no_members 64))
     ∙ (members-joined ts (λ _. false) (λ t h. let l : t < P.tasks = chosen-within P s good tied k es li t (has-front P.size _ t h) in omega arith)
     ∙ members-same 64 _ _ (λ t l. sym (scheduled-is P s good tied k es li t)))))
-
--- the first of a cluster's list are its foremost jobs
-pub foremost-holds : {M : Type 0} (before : M → ℕ → M → ℕ → Bool) → Lawful before → (es : List (Entry M)) (size t : ℕ) → IsForemost before es size t (among_first es size t)
-foremost-holds before law es size t P s b c li =
-    ap (λ n. among_first es n t) (sym c) ∙ sym (foremost-is P s (subst Lawful (sym b) law) (P.cluster t) es li t refl)
-
--- the entry at i has just i ahead
-pub ranked-holds : {M : Type 0} (before : M → ℕ → M → ℕ → Bool) → Lawful before → (es : List (Entry M)) (i : ℕ) → IsRanked before es i (entry_at es i)
-ranked-holds before law es i P s k b li = sym (ranked-is P s (subst Lawful (sym b) law) k es li i)

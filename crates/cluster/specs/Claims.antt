@@ -1,7 +1,7 @@
 -- What the code's answers mean, for every plan and state that the memory stands for.
-use Rattle.std.specs.Prelude.{◌≡◌, ℕ, ◌+◌, ◌<◌, ◌≤◌, Bool, true, false, cond, ◌⊎◌, List, length, take, Some, None, Option}
+use Rattle.std.specs.Prelude.{◌≡◌, ℕ, ◌+◌, ◌<◌, ◌≤◌, Bool, true, false, cond, ◌⊎◌, List, length, take, Some, None}
 use Rattle.model.specs.declared.Condition.TheVariants.{Idle}
-use Rattle.model.specs.Words.{Plan, State, is_open, pending, foremost, ranked, scheduled_set}
+use Rattle.model.specs.Words.{Plan, State, is_open, pending, scheduled_set}
 use Rattle.model.specs.Rules.{arrive, become}
 use Rattle.cluster.specs.declared.Entry.{Entry}
 use Rattle.cluster.specs.declared.Job.{Job}
@@ -28,16 +28,6 @@ module _ {Mark : Type 0} (before : Mark → ℕ → Mark → ℕ → Bool) where
   abbrev pub IsScheduled : List Job → List (Entry Mark) → ℕ → ℕ → Type 0
   IsScheduled js es size r = (P : Plan Mark) (s : State Mark) (k : ℕ) → P.order.before ≡ before → P.size ≡ size → P.tasks ≤ 64
       → Shows s js → Tied P s → Listed P s k es → r ≡ scheduled_set P s k
-
-  -- r tells whether t is foremost in the cluster whose list this is
-  abbrev pub IsForemost : List (Entry Mark) → ℕ → ℕ → Bool → Type 0
-  IsForemost es size t r = (P : Plan Mark) (s : State Mark) → P.order.before ≡ before → P.size ≡ size
-      → Listed P s (P.cluster t) es → r ≡ foremost P s t
-
-  -- r is the pending job with just i ahead in the cluster whose list this is
-  abbrev pub IsRanked : List (Entry Mark) → ℕ → Option ℕ → Type 0
-  IsRanked es i r = (P : Plan Mark) (s : State Mark) (k : ℕ) → P.order.before ≡ before
-      → Listed P s k es → r ≡ ranked P s k i
 
   -- a list of a cluster's pending jobs stays one as the job of t comes
   abbrev pub ListedOnArrival : List (Entry Mark) → ℕ → Entry Mark → List (Entry Mark) → ℕ → Type 0

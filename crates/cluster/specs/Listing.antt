@@ -1,6 +1,5 @@
 -- A cluster's pending jobs as an ordered list of entries.
-use Rattle.std.specs.Prelude.{◌≡◌, ℕ, ◌+◌, ◌-◌, ◌<◌, Bool, true, false, cond, ◌&&◌, ◌||◌, List, [], ◌∷◌, ◌++◌, length, take, drop, Option, ◌==◌, nat_le, nat_lt}
-use Rattle.std.specs.List.{slice_get}
+use Rattle.std.specs.Prelude.{◌≡◌, ℕ, ◌+◌, ◌-◌, ◌<◌, Bool, true, false, cond, ◌&&◌, ◌||◌, List, [], ◌∷◌, ◌++◌, length, take, drop, ◌==◌, nat_le, nat_lt}
 use Rattle.ordered.specs.Ranks.{Sorted, ranked, found}
 use Rattle.ordered.specs.Places.{closed}
 use Rattle.model.specs.Words.{Plan, State, pending}
@@ -19,14 +18,6 @@ tasks_of (e ∷ es) = e.task ∷ tasks_of es
 abbrev pub has : List ℕ → ℕ → Bool
 has [] t = false
 has (x ∷ xs) t = x == t || has xs t
-
--- is t among the tasks of the first `size` entries
-abbrev pub among_first : {Mark : Type 0} → List (Entry Mark) → ℕ → ℕ → Bool
-among_first es size t = has (take size (tasks_of es)) t
-
--- the task of the entry at i, if there is one
-abbrev pub entry_at : {Mark : Type 0} → List (Entry Mark) → ℕ → Option ℕ
-entry_at es i = slice_get (tasks_of es) i
 
 -- each entry has the mark of its task
 abbrev pub Marked : {Mark : Type 0} → (ℕ → Mark) → List (Entry Mark) → Type 0

@@ -1,9 +1,9 @@
 // A cluster: its pending jobs as an ordered list in lent places, and which of them are scheduled.
 ghost use Rattle.std.specs.Prelude.{◌≡◌, take, set, slice_set};
 ghost use Rattle.std.specs.List.{slice_get};
-ghost use Rattle.cluster.specs.Listing.{urgent, has, part, tasks_of as TasksOf, «among_first» as AmongFirst, «entry_at» as EntryAt};
+ghost use Rattle.cluster.specs.Listing.{urgent, part};
 ghost use Rattle.cluster.specs.Picks.{bit as BitOf, condition_at as ConditionAt, «pick_at» as PickAt, picked_set as PickedSet};
-ghost use Rattle.cluster.specs.Claims.{IsScheduled, IsForemost, IsRanked, Entering, Departing};
+ghost use Rattle.cluster.specs.Claims.{IsScheduled, Entering, Departing};
 ghost use Rattle.model.specs.Words.{holds as holdsIn};
 ghost use Rattle.std.proofs.Common.{rules};
 
@@ -86,25 +86,6 @@ fn span<A>(xs: &[A], from: usize, n: usize) -> &[A]
     }
 }
 
-// The list that has the first `used` of the `room` places from `from` on.
-fn listed<M>(places: &[Entry<M>], from: usize, room: usize, used: usize) -> &[Entry<M>]
-    ensures { result.now ≡ take used (part from room places.now) }
-{
-    front(span(places, from, room), used)
-}
-
-// Whether the task has an entry here.
-fn contains<M: Copy>(entries: &[Entry<M>], task: u8) -> bool
-    ensures { result ≡ has (TasksOf entries.now) task }
-{
-    for e in entries {
-        if e.task == task {
-            return true;
-        }
-    }
-    false
-}
-
 // Whether the task's job holds a resource.
 fn task_holds(jobs: &[Job], task: u8) -> bool
     ensures { result ≡ holdsIn (ConditionAt jobs.now task) }
@@ -177,41 +158,7 @@ pub fn scheduled_set<O: Order>(
     ensures value { result ≡ PickedSet jobs.now (take used (part from room places.now)) size }
     ensures means { IsScheduled O.Order.urgency.before jobs.now (take used (part from room places.now)) size result }
 {
-    first_picked(jobs, listed(places, from, room, used), size)
-}
-
-/// Whether the task's job is among the first `size` of its cluster's list.
-pub fn is_foremost<O: Order>(
-    places: &[Entry<O::Mark>],
-    from: usize,
-    room: usize,
-    used: usize,
-    size: usize,
-    task: u8,
-) -> bool
-    ensures value { result ≡ AmongFirst (take used (part from room places.now)) size task }
-    ensures means { IsForemost O.Order.urgency.before (take used (part from room places.now)) size task result }
-{
-    contains(front(listed(places, from, room, used), size), task)
-}
-
-/// The task whose job has just `ahead` others ahead of it in its cluster's list, if there is one.
-pub fn at_rank<O: Order>(
-    places: &[Entry<O::Mark>],
-    from: usize,
-    room: usize,
-    used: usize,
-    ahead: usize,
-) -> Option<u8>
-    ensures value { result ≡ EntryAt (take used (part from room places.now)) ahead }
-    ensures means { IsRanked O.Order.urgency.before (take used (part from room places.now)) ahead result }
-{
-    let entries = listed(places, from, room, used);
-    if ahead < entries.len() {
-        Some(entries[ahead].task)
-    } else {
-        None
-    }
+    first_picked(jobs, front(span(places, from, room), used), size)
 }
 
 /// One pending job more in the list that has the first `used` of the `room` places from `from`

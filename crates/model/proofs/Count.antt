@@ -1,6 +1,6 @@
--- Counting: by maps that are one to one, in two parts, and cluster by cluster.
-use Rattle.std.proofs.Common.{◌≡◌, ℕ, zero, suc, ◌+◌, ◌*◌, ◌<◌, ◌≤◌, Bool, true, false, cond, not, ◌&&◌, eqb, sym, refl, ap, ◌∙◌, ⊎_elim, suc-mul, arith}
-use Rattle.std.proofs.lemmas.Bool.{cases_Bool, cases_eq, and_parts, and_from, and_left, eqb-false, eq-eqb, ne_eqb, both_ways, not_from_true, not-true}
+-- Counting by maps that are one to one.
+use Rattle.std.proofs.Common.{◌≡◌, ℕ, zero, suc, ◌+◌, ◌<◌, ◌≤◌, Bool, true, false, cond, not, ◌&&◌, eqb, ◌⊎◌, sym, refl, ap, ◌∙◌, ⊎_elim, arith}
+use Rattle.std.proofs.lemmas.Bool.{cases_Bool, cases_eq, and_left, eq-eqb, ne_eqb, both_ways, not_from_true}
 use Rattle.model.specs.Tally.{tally}
 
 -- 1 for a test that passes
@@ -69,58 +69,4 @@ tally-more n x p q l px qx h =
     let s : tally n p ≤ tally n (without q x) = tally-into n n p (without q x) (λ t. t)
     (λ t lt pt. (lt, without-there q x t (λ e. both_ways (p x) px (ap p (sym e) ∙ pt)) ∙ h t lt pt))
     (λ t u _ _ _ _ e. e) in
-    omega arith
-
-pub tally-none : (n : ℕ) (p : ℕ → Bool) → ((t : ℕ) → t < n → p t ≡ false) → tally n p ≡ 0
-tally-none zero p h = refl
-tally-none (suc n) p h =
-    let a : one (p n) ≡ 0 = ap one (h n (omega arith)) in
-    let b : tally n p ≡ 0 = tally-none n p (λ t l. h t (omega arith)) in
-    omega arith
-
-pub one-most : (b : Bool) → one b ≤ 1
-one-most true = omega arith
-one-most false = omega arith
-
-pub tally-within : (n : ℕ) (p : ℕ → Bool) → tally n p ≤ n
-tally-within zero p = omega arith
-tally-within (suc n) p = let r : tally n p ≤ n = tally-within n p in let o : one (p n) ≤ 1 = one-most (p n) in omega arith
-
-split_one : (x y : Bool) → one x ≤ one (x && y) + one (x && not y)
-split_one true true = omega arith
-split_one true false = omega arith
-split_one false y = omega arith
-
-pub tally-split : (n : ℕ) (p q : ℕ → Bool) → tally n p ≤ tally n (λ t. p t && q t) + tally n (λ t. p t && not (q t))
-tally-split zero p q = omega arith
-tally-split (suc n) p q =
-    let r : tally n p ≤ tally n (λ t. p t && q t) + tally n (λ t. p t && not (q t)) = tally-split n p q in
-    let o : one (p n) ≤ one (p n && q n) + one (p n && not (q n)) = split_one (p n) (q n) in
-    omega arith
-
--- what passes in each of k clusters at most c times passes k * c times at most
-pub tally-spread : (k c n : ℕ) (cl : ℕ → ℕ) (p : ℕ → Bool) → ((t : ℕ) → t < n → p t ≡ true → cl t < k) → ((j : ℕ) → tally n (λ t. p t && eqb (cl t) j) ≤ c) → tally n p ≤ k * c
-tally-spread zero c n cl p h each =
-    let z : tally n p ≡ 0 = tally-none n p (λ t l. ⊎_elim (λ (y : p t ≡ true). let b : cl t < 0 = h t l y in absurd (omega arith)) (λ (y : p t ≡ false). y) (cases_Bool (p t))) in
-    omega arith
-tally-spread (suc k) c n cl p h each =
-    let a : tally n (λ t. p t && eqb (cl t) k) ≤ c = each k in
-    let r : tally n (λ t. p t && not (eqb (cl t) k)) ≤ k * c = tally-spread k c n cl (λ t. p t && not (eqb (cl t) k))
-    (λ t l y. let g = and_parts (p t) _ y in
-    let b : cl t < suc k = h t l g.0 in
-    let ne : cl t ≡ k → ⊥ = eqb-false (cl t) k (not-true (eqb (cl t) k) g.1) in
-    omega arith)
-    (λ j. let e : tally n (λ t. (p t && not (eqb (cl t) k)) && eqb (cl t) j) ≤ tally n (λ t. p t && eqb (cl t) j)
-    = tally-into n n _ _ (λ t. t) (λ t l y. let g = and_parts (p t && not (eqb (cl t) k)) _ y in (l, and_from (p t) _ (and_parts (p t) _ g.0).0 g.1)) (λ t u _ _ _ _ e. e) in
-    let f : tally n (λ t. p t && eqb (cl t) j) ≤ c = each j in
-    omega arith) in
-    let sp : tally n p ≤ tally n (λ t. p t && eqb (cl t) k) + tally n (λ t. p t && not (eqb (cl t) k)) = tally-split n p (λ t. eqb (cl t) k) in
-    let m : suc k * c ≡ k * c + c = suc-mul k c in
-    omega arith
-
--- two that pass
-pub tally-two : (n t u : ℕ) (p : ℕ → Bool) → t < n → u < n → (t ≡ u → ⊥) → p t ≡ true → p u ≡ true → 2 ≤ tally n p
-tally-two n t u p lt lu ne a b =
-    let v : tally n p ≡ 1 + tally n (without p u) = tally-without n u p lu b in
-    let w : tally n (without p u) ≡ 1 + tally n (without (without p u) t) = tally-without n t (without p u) lt (without-there p u t ne ∙ a) in
     omega arith

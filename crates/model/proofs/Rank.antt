@@ -1,6 +1,6 @@
 -- The jobs of a cluster, by how many go before each.
-use Rattle.std.proofs.Common.{◌≡◌, ℕ, ◌<◌, Bool, true, false, not, ◌&&◌, eqb, sym, ◌∙◌, ⊎_elim, arith}
-use Rattle.std.proofs.lemmas.Bool.{cases_Bool, cases_eq, and_parts, and_from, and_right, eq-eqb, not_from_false}
+use Rattle.std.proofs.Common.{◌≡◌, ℕ, ◌<◌, Bool, true, false, not, ◌&&◌, ◌⊎◌, sym, ◌∙◌, ⊎_elim, arith}
+use Rattle.std.proofs.lemmas.Bool.{cases_Bool, cases_eq, and_parts, and_from, and_right, not_from_false}
 use Rattle.model.specs.Tally.{tally}
 use Rattle.model.proofs.Count.{tally-more}
 
@@ -31,8 +31,3 @@ module _ (n : ℕ) (cl : ℕ → ℕ) (goes : ℕ → ℕ → Bool) (law : Order
       let l : rank n goes P u < rank n goes P t = rank_less P t u lu pu b2 in omega arith)
       (cases_Bool (goes t u))))
       (cases_eq t u)
-
-  -- fewer are ahead of one that passes than pass in its cluster
-  pub rank_below : (P : ℕ → Bool) (k t : ℕ) → t < n → P t ≡ true → cl t ≡ k → rank n goes P t < tally n (λ u. P u && eqb (cl u) k)
-  rank_below P k t l p c = tally-more n t _ _ l (and_right (P t) _ (law.never t)) (and_from (P t) _ p (eq-eqb _ _ c))
-      (λ u lu h. let b = and_parts (P u) _ h in and_from (P u) _ b.0 (eq-eqb _ _ (law.mates u t b.1 ∙ c)))

@@ -1,61 +1,59 @@
--- What every list of calls from a fresh whole keeps.
-use Rattle.std.proofs.Common.{◌≡◌, ℕ, ◌<◌, ◌≤◌, false, List, [], ◌∷◌, None, sym, refl, ap, ◌∙◌}
-use Rattle.std.proofs.lemmas.Bool.{both_ways, or_parts}
+-- Every list of calls since an accepted set-up keeps the promise.
+use Rattle.std.proofs.Common.{◌≡◌, ℕ, ◌<◌, ◌≤◌, cond, not, ltb, List, [], ◌∷◌, Some, None, Option, sym, refl, ap, ◌∙◌, ⊎_elim, arith}
+use Rattle.std.proofs.lemmas.Bool.{cases_lt, le-ltb, cond-true, not_from_false}
 use Rattle.order.specs.Urgency.{Lawful}
-use Rattle.lock.specs.Model.{LockModel, member}
-use Rattle.lock.specs.Laws.{Laws}
-use Rattle.model.specs.declared.Condition.TheVariants.{Idle}
-use Rattle.model.specs.Words.{Plan, Whole, is_pending, is_open, foremost}
-use Rattle.model.specs.Calls.{Call, after}
-use Rattle.model.proofs.Basics.{none_some}
-use Rattle.model.proofs.Links.{fits-lone}
-use Rattle.model.proofs.Schedule.{Sound}
-use Rattle.model.proofs.Ties.{Tied}
-use Rattle.model.proofs.InLock.{holds_in, waits_in}
-use Rattle.model.proofs.Events.{Moved, step-moved}
-use Rattle.model.proofs.Rest.{Resting, rests_by}
-use Rattle.model.proofs.RestEvents.{step-rest}
+use Rattle.model.specs.declared.Condition.{Condition}
+use Rattle.model.specs.declared.Condition.TheVariants.{Idle, Computing}
+use Rattle.model.specs.declared.Event.{Event}
+use Rattle.model.specs.declared.Event.TheVariants.{Release, Finish}
+use Rattle.model.specs.declared.Refusal.{Refusal}
+use Rattle.model.specs.Words.{Plan, State, is_pending, runs}
+use Rattle.model.specs.Rules.{Call, acting, asking, put, start, refusal, moved, act, after, kept_if}
+use Rattle.model.specs.Promise.{Kept}
+use Rattle.model.proofs.Basics.{put-here, put-there, by_point}
+use Rattle.model.proofs.Schedule.{Plain, served}
 
--- as set-up leaves it
-pub record Fresh {Mark L : Type 0} (P : Plan Mark) (K : LockModel L) (s : Whole Mark L) : Type 0 where
-  pub all_idle : (t : ℕ) → s.jobs.condition t ≡ Idle
-  pub no_donor : (t : ℕ) → s.jobs.donor t ≡ None
-  pub no_recipient : (t : ℕ) → s.jobs.recipient t ≡ None
-  pub empty : (r t : ℕ) → member K (s.lock r) t ≡ false
-  pub fine : (r : ℕ) → K.sound (s.lock r)
-  pub placed : (t : ℕ) → t < P.tasks → P.cluster t < P.clusters
-  pub numbered : P.tasks ≤ 64
+module _ {Mark : Type 0} (P : Plan Mark) where
+  pub plain-start : Plain P (start P)
+  plain-start = record { computes = λ t. refl; no_donor = λ t. refl; no_recipient = λ t. refl; beyond = λ t l. refl }
 
-module _ {Mark L : Type 0} (P : Plan Mark) (K : LockModel L) (s : Whole Mark L) (law : Lawful P.order.before) (laws : Laws K) (fresh : Fresh P K s) where
-  sound-first : Sound P s.jobs
-  sound-first = record {
-    links = record {
-      giver = λ t d e. absurd (none_some (s.jobs.donor t) d (fresh.no_donor t) e);
-      taker = λ d t e. absurd (none_some (s.jobs.recipient d) t (fresh.no_recipient d) e);
-      mates = λ t d e. absurd (none_some (s.jobs.donor t) d (fresh.no_donor t) e);
-    };
-    fits = λ t. fits-lone (foremost P s.jobs t) (is_open (s.jobs.condition t)) (s.jobs.donor t) (s.jobs.recipient t) (fresh.no_donor t) (fresh.no_recipient t) (λ o. absurd (both_ways _ (ap is_open (fresh.all_idle t)) o));
-    beyond = λ t l. fresh.all_idle t;
+  -- a task's condition becomes idle or computing
+  becomes : (s : State Mark) → Plain P s → (t : ℕ) (k : Condition) → t < P.tasks → runs k ≡ is_pending k → (x : ℕ → Mark)
+      → Plain P (record { condition = put s.condition t k; mark = x; donor = s.donor; recipient = s.recipient })
+  becomes s plain t k l e x = record {
+    computes = λ u. by_point (λ u. runs (put s.condition t k u) ≡ is_pending (put s.condition t k u)) t u
+        (ap runs (put-here s.condition t t k refl) ∙ (e ∙ sym (ap is_pending (put-here s.condition t t k refl))))
+        (λ ne. ap runs (put-there s.condition t u k ne) ∙ (plain.computes u ∙ sym (ap is_pending (put-there s.condition t u k ne))));
+    no_donor = plain.no_donor;
+    no_recipient = plain.no_recipient;
+    beyond = λ u lu. put-there s.condition t u k (λ z. omega arith) ∙ plain.beyond u lu;
   }
 
-  tied-first : Tied P K s.lock s
-  tied-first = record {
-    fine = fresh.fine;
-    holds_is = λ r t. (or_parts _ _ (fresh.empty r t)).0 ∙ sym (ap (holds_in r) (fresh.all_idle t));
-    queued_is = λ r t. (or_parts _ _ (fresh.empty r t)).1 ∙ sym (ap (waits_in r) (fresh.all_idle t));
-    limit_is = λ r mode o. refl;
-  }
+  -- an event that is not refused names a task
+  names_task : (t : ℕ) (f : Refusal) (o : Option Refusal) → cond (not (ltb t P.tasks)) (Some f) o ≡ None → t < P.tasks
+  names_task t f o e = ⊎_elim (λ (l : t < P.tasks). l)
+      (λ (l : P.tasks ≤ t). absurd (some-none f (sym (cond-true (not (ltb t P.tasks)) (Some f) o (not_from_false _ (le-ltb t P.tasks l))) ∙ e)))
+      (cases_lt t P.tasks)
+    where
+      some-none : (f : Refusal) → Some f ≡ None → ⊥
+      some-none f e = let z : ◌≡◌ {A = ℕ} 0 1 = cc in omega arith
 
-  pub ties : (calls : List Call) → Sound P (after P K s calls).jobs × Tied P K s.lock (after P K s calls)
-  ties [] = (sound-first, tied-first)
-  ties (x ∷ xs) = let g = ties xs in let m = step-moved P K s law laws fresh.placed (after P K s xs) g.0 g.1 x in (m.sound, m.tied)
+  -- what holds of the state before, and of the state after an accepted event, holds after the event
+  kept_or : (Q : State Mark → Type 0) (o : Option Refusal) (s z : State Mark) → Q s → (o ≡ None → Q z) → Q (kept_if o s z)
+  kept_or Q None s z a b = b refl
+  kept_or Q (Some f) s z a b = a
 
-  pub moved : (x : Call) (xs : List Call) → Moved P K s (after P K s xs) x (after P K s (x ∷ xs))
-  moved x xs = let g = ties xs in step-moved P K s law laws fresh.placed (after P K s xs) g.0 g.1 x
+  plain-act : (s : State Mark) → Plain P s → (e : Event) → Plain P (act P s e)
+  plain-act s plain (Release t i) = kept_or (Plain P) (refusal P s (Release t i)) s (moved P s (Release t i)) plain
+      (λ e. becomes s plain t Computing (names_task t _ _ e) refl (put s.mark t (P.order.mark (P.parameter t) i)))
+  plain-act s plain (Finish t) = kept_or (Plain P) (refusal P s (Finish t)) s (moved P s (Finish t)) plain
+      (λ e. becomes s plain t Idle (names_task t _ _ e) refl s.mark)
 
-  pub rest-after : (calls : List Call) → Resting P K (after P K s calls)
-  rest-after [] = record {
-    all = λ t. rests_by P K s t Idle (fresh.all_idle t) refl;
-    asked = λ t r m e. absurd (both_ways _ (ap is_pending (fresh.all_idle t)) (ap is_pending e));
-  }
-  rest-after (x ∷ xs) = let g = ties xs in step-rest P K s.lock law laws fresh.placed fresh.numbered (after P K s xs) g.0 g.1 (rest-after xs) x
+  pub plain-after : (calls : List Call) → Plain P (after P calls)
+  plain-after [] = plain-start
+  plain-after (acting e ∷ xs) = plain-act (after P xs) (plain-after xs) e
+  plain-after (asking q ∷ xs) = plain-after xs
+
+  pub kept : Lawful P.order.before → (calls : List Call) → Kept P calls
+  kept law [] = served P (after P []) (plain-after []) law
+  kept law (x ∷ xs) = (served P (after P (x ∷ xs)) (plain-after (x ∷ xs)) law, kept law xs)

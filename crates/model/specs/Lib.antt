@@ -2,6 +2,4 @@ pub mod Numbers
 pub mod Tally
 pub mod Words
 pub mod Rules
-pub mod Calls
 pub mod Promise
-pub mod InWords

@@ -3,22 +3,18 @@ use Rattle.std.specs.Prelude.{ℕ}
 use Rattle.model.specs.declared.Condition.{Condition}
 use Rattle.model.specs.declared.Condition.TheVariants.{Idle, Computing, Wanting, Waiting, Holding, Done}
 use Rattle.model.specs.declared.Event.{Event}
-use Rattle.model.specs.declared.Event.TheVariants.{Release, Require, Unlock, Finish}
+use Rattle.model.specs.declared.Event.TheVariants.{Release, Finish}
 use Rattle.model.specs.declared.Refusal.{Refusal}
-use Rattle.model.specs.declared.Refusal.TheVariants.{ClusterCount, ClusterSize, TaskCount, MemoryTooSmall, ResourceCount, LocksTooFew, ClusterAbsent, ParameterUnfit, KindUnknown, CountUnfit, NoSuchTask, NoSuchResource, ModeUnfit, AlreadyPending, NotPending, NotScheduled, NotHolding, IsHolding, NoSuchCluster, BufferTooShort}
+use Rattle.model.specs.declared.Refusal.TheVariants.{ClusterCount, ClusterSize, TaskCount, MemoryTooSmall, ClusterAbsent, ParameterUnfit, NoSuchTask, AlreadyPending, NotPending, NotScheduled, NoSuchCluster}
 
 -- the task whose event it is
 abbrev pub event_task : Event → ℕ
 event_task (Release t i) = t
-event_task (Require t r m) = t
-event_task (Unlock t) = t
 event_task (Finish t) = t
 
 -- the number of an event's kind
 abbrev pub event_kind : Event → ℕ
 event_kind (Release t i) = 4
-event_kind (Require t r m) = 5
-event_kind (Unlock t) = 6
 event_kind (Finish t) = 7
 
 -- the number of a condition
@@ -36,19 +32,10 @@ refusal_number ClusterCount = 1
 refusal_number ClusterSize = 2
 refusal_number TaskCount = 3
 refusal_number MemoryTooSmall = 3
-refusal_number ResourceCount = 4
-refusal_number LocksTooFew = 4
 refusal_number ClusterAbsent = 5
 refusal_number ParameterUnfit = 6
-refusal_number KindUnknown = 7
-refusal_number CountUnfit = 8
 refusal_number NoSuchTask = 10
-refusal_number NoSuchResource = 11
-refusal_number ModeUnfit = 12
 refusal_number AlreadyPending = 13
 refusal_number NotPending = 14
 refusal_number NotScheduled = 15
-refusal_number NotHolding = 16
-refusal_number IsHolding = 17
 refusal_number NoSuchCluster = 18
-refusal_number BufferTooShort = 19

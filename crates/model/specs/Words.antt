@@ -1,5 +1,5 @@
 -- The words of the subject. Tasks are the numbers below the count of tasks, and a task has at most one job.
-use Rattle.std.specs.Prelude.{ℕ, zero, suc, ◌+◌, ◌*◌, ◌^◌, Bool, true, false, cond, not, ◌&&◌, Some, None, Option, ◌==◌, nat_lt}
+use Rattle.std.specs.Prelude.{ℕ, zero, suc, ◌+◌, ◌^◌, Bool, true, false, cond, not, ◌&&◌, Some, None, Option, ◌==◌, nat_lt}
 use Rattle.order.specs.Urgency.{Urgency}
 use Rattle.model.specs.declared.Condition.{Condition}
 use Rattle.model.specs.declared.Condition.TheVariants.{Idle, Computing, Wanting, Waiting, Holding, Done}
@@ -41,60 +41,21 @@ runs (Waiting r m) = false
 runs (Holding r m) = true
 runs Done = false
 
--- is it finished and still pending
-abbrev pub is_done : Condition → Bool
-is_done Idle = false
-is_done Computing = false
-is_done (Wanting r m) = false
-is_done (Waiting r m) = false
-is_done (Holding r m) = false
-is_done Done = true
-
--- the resource that it waits for
-abbrev pub awaited : Condition → Option ℕ
-awaited Idle = None
-awaited Computing = None
-awaited (Wanting r m) = None
-awaited (Waiting r m) = Some r
-awaited (Holding r m) = None
-awaited Done = None
-
--- the resource that it holds
-abbrev pub held : Condition → Option ℕ
-held Idle = None
-held Computing = None
-held (Wanting r m) = None
-held (Waiting r m) = None
-held (Holding r m) = Some r
-held Done = None
-
--- what set-up fixes: `size` processors to each cluster, each task's cluster and parameter, each resource's kind and count, and the order
+-- what set-up fixes: `size` processors to each cluster, each task's cluster and parameter, and the order
 pub record Plan (Mark : Type 0) : Type 0 where
   pub clusters : ℕ
   pub size : ℕ
   pub tasks : ℕ
   pub cluster : ℕ → ℕ
   pub parameter : ℕ → ℕ
-  pub resources : ℕ
-  pub kind : ℕ → ℕ
-  pub count : ℕ → ℕ
   pub order : Urgency Mark
 
--- how many processors there are in all
-abbrev pub processors : {Mark : Type 0} → Plan Mark → ℕ
-processors P = P.clusters * P.size
-
--- what the calls change of the jobs, by task number: a donor gives its place to its recipient
+-- what the calls change, by task number: a donor gives its place to its recipient
 pub record State (Mark : Type 0) : Type 0 where
   pub condition : ℕ → Condition
   pub mark : ℕ → Mark
   pub donor : ℕ → Option ℕ
   pub recipient : ℕ → Option ℕ
-
--- what the calls change: the jobs, and the lock of each resource
-pub record Whole (Mark L : Type 0) : Type 0 where
-  pub jobs : State Mark
-  pub lock : ℕ → L
 
 -- the task in o, or t where there is none
 abbrev pub or_else : Option ℕ → ℕ → ℕ
@@ -110,11 +71,6 @@ on (Some r) p = p r
 abbrev pub is_some : Option ℕ → Bool
 is_some None = false
 is_some (Some t) = true
-
--- a number below n that passes, if there is one
-abbrev pub find : ℕ → (ℕ → Bool) → Option ℕ
-find zero p = None
-find (suc n) p = cond (p n) (Some n) (find n p)
 
 -- the tasks below n that pass, as a number with bit t for task t
 abbrev pub members : ℕ → (ℕ → Bool) → ℕ
@@ -138,10 +94,6 @@ module _ {Mark : Type 0} (P : Plan Mark) (s : State Mark) where
   abbrev pub foremost : ℕ → Bool
   foremost t = pending t && nat_lt (ahead t) P.size
 
-  -- the pending job of cluster k that has just i more urgent ones ahead, if there is one
-  abbrev pub ranked : ℕ → ℕ → Option ℕ
-  ranked k i = find P.tasks (λ u. pending u && (P.cluster u == k && ahead u == i))
-
   -- it computes or holds, unless it is a donor whose recipient holds
   abbrev pub ready : ℕ → Bool
   ready t = runs (s.condition t) && not (on (s.recipient t) (λ r. holds (s.condition r)))
@@ -161,7 +113,3 @@ module _ {Mark : Type 0} (P : Plan Mark) (s : State Mark) where
   -- the scheduled tasks of cluster k, bit t for task t
   abbrev pub scheduled_set : ℕ → ℕ
   scheduled_set k = members 64 (λ t. (P.cluster t == k) && scheduled t)
-
-  -- an open request of cluster k
-  abbrev pub open_in : ℕ → ℕ → Bool
-  open_in k t = is_open (s.condition t) && P.cluster t == k
