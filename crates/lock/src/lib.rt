@@ -114,9 +114,9 @@ pub trait Lock: Copy {
 
 // Takes one step: whether it ended a turn, and whether it granted the task.
 fn advance<L: Lock>(lock: &mut L, step: Step, task: u8) -> (bool, bool)
-    ensures after { view lock.new ≡ after model (view lock.old) step }
-    ensures ended { result.0 ≡ EndsTurn model (view lock.old) step }
-    ensures granted { result.1 ≡ GrantsTo model (view lock.old) task step }
+    ensures after { L.view lock.new ≡ after L.model (L.view lock.old) step }
+    ensures ended { result.0 ≡ EndsTurn L.model (L.view lock.old) step }
+    ensures granted { result.1 ≡ GrantsTo L.model (L.view lock.old) task step }
 {
     match step {
         Step::Request(t, mode) => {
@@ -145,11 +145,11 @@ fn counted(waiting: bool, ended: bool, granted: bool) -> (usize, bool)
 /// Makes a request and then the steps of a list, and counts the turns that end from the request to
 /// its grant.
 pub fn turns_to_grant<L: Lock>(lock: &mut L, task: u8, mode: u8, steps: &[Step]) -> usize
-    ensures after { view lock.new ≡ AfterAll model (model.requested (view lock.old) task mode) steps.now }
-    ensures turns { result ≡ TurnsToGrant model (model.requested (view lock.old) task mode) task steps.now }
-    ensures bound { model.sound (view lock.old) → model.reply (view lock.old) task mode ≡ Reply.Waits → result ≤ model.limit (view lock.old) mode (crowd model (view lock.old)) }
-    ensures always { WaitsBounded model }
-    ensures live { Live model }
+    ensures after { L.view lock.new ≡ AfterAll L.model (L.model.requested (L.view lock.old) task mode) steps.now }
+    ensures turns { result ≡ TurnsToGrant L.model (L.model.requested (L.view lock.old) task mode) task steps.now }
+    ensures bound { L.model.sound (L.view lock.old) → L.model.reply (L.view lock.old) task mode ≡ Reply.Waits → result ≤ L.model.limit (L.view lock.old) mode (crowd L.model (L.view lock.old)) }
+    ensures always { WaitsBounded L.model }
+    ensures live { Live L.model }
 {
     let _reply = lock.request(task, mode);
     let mut turns = 0;

@@ -37,7 +37,7 @@ fn front<A>(places: &[A], n: usize) -> &[A]
 
 // How many entries at the front go before `item`.
 fn place_of<R: Ranking>(entries: &[R::Item], item: R::Item) -> usize
-    ensures at { result ≡ place before item entries.now }
+    ensures at { result ≡ place R.before item entries.now }
     ensures within { result ≤ length entries.now }
 {
     for (i, x) in entries.iter().enumerate() {
@@ -72,11 +72,11 @@ fn move_up<A: Copy>(places: &mut [A])
 /// Puts `item` in its place among the first `used`, and gives that place. `None` where no place
 /// is left for it, and then nothing changes.
 pub fn insert<R: Ranking>(places: &mut [R::Item], used: usize, item: R::Item) -> Option<usize>
-    ensures at { let xs = places.old in result ≡ (if nat_lt used (length xs) then Some (place before item (take used xs)) else None) }
-    ensures after { let xs = places.old in places.new ≡ (if nat_lt used (length xs) then ranked before item (take used xs) ++ drop (used + 1) xs else xs) }
-    ensures sorted { let list = take used places.old in Sorted before list → Fresh key (key item) list → Sorted before (ranked before item list) }
-    ensures counts { let list = take used places.old in (p : R.Item → Bool) → passing p (ranked before item list) ≡ passing p (item ∷ list) }
-    ensures rank { let list = take used places.old in Sorted before list → Fresh key (key item) list → place before item list ≡ passing (λ x. before x item) list }
+    ensures at { let xs = places.old in result ≡ (if nat_lt used (length xs) then Some (place R.before item (take used xs)) else None) }
+    ensures after { let xs = places.old in places.new ≡ (if nat_lt used (length xs) then ranked R.before item (take used xs) ++ drop (used + 1) xs else xs) }
+    ensures sorted { let list = take used places.old in Sorted R.before list → Fresh R.key (R.key item) list → Sorted R.before (ranked R.before item list) }
+    ensures counts { let list = take used places.old in (p : R.Item → Bool) → passing p (ranked R.before item list) ≡ passing p (item ∷ list) }
+    ensures rank { let list = take used places.old in Sorted R.before list → Fresh R.key (R.key item) list → place R.before item list ≡ passing (λ x. R.before x item) list }
 {
     if used >= places.len() {
         return None;
@@ -91,7 +91,7 @@ pub fn insert<R: Ranking>(places: &mut [R::Item], used: usize, item: R::Item) ->
 pub fn remove_at<R: Ranking>(places: &mut [R::Item], used: usize, at: usize) -> Option<R::Item>
     ensures gives { result ≡ taken used at places.old }
     ensures after { places.new ≡ closed used at places.old }
-    ensures sorted { let list = take used places.old in Sorted before list → Sorted before (remove list at) }
+    ensures sorted { let list = take used places.old in Sorted R.before list → Sorted R.before (remove list at) }
     ensures counts { let list = take used places.old in (p : R.Item → Bool) (x : R.Item) → result ≡ Some x → passing p (x ∷ remove list at) ≡ passing p list }
 {
     if at >= used || used > places.len() {
@@ -107,7 +107,7 @@ pub fn remove_at<R: Ranking>(places: &mut [R::Item], used: usize, at: usize) -> 
 pub fn remove<R: Ranking>(places: &mut [R::Item], used: usize, key: u8) -> Option<R::Item>
     ensures gives { let xs = places.old in result ≡ taken used (found R.Ranking.key key (take used xs)) xs }
     ensures after { let xs = places.old in places.new ≡ closed used (found R.Ranking.key key (take used xs)) xs }
-    ensures sorted { let list = take used places.old in Sorted before list → Sorted before (remove list (found R.Ranking.key key list)) }
+    ensures sorted { let list = take used places.old in Sorted R.before list → Sorted R.before (remove list (found R.Ranking.key key list)) }
     ensures counts { let list = take used places.old in (p : R.Item → Bool) (x : R.Item) → result ≡ Some x → passing p (x ∷ remove list (found R.Ranking.key key list)) ≡ passing p list }
 {
     let at = find::<R>(places, used, key)?;
@@ -132,7 +132,7 @@ pub fn find<R: Ranking>(places: &[R::Item], used: usize, key: u8) -> Option<usiz
 /// The entry at `at`. `None` where there is none.
 pub fn get<R: Ranking>(places: &[R::Item], used: usize, at: usize) -> Option<R::Item>
     ensures gives { result ≡ slice_get (take used places.now) at }
-    ensures rank { let list = take used places.now in (x : R.Item) → result ≡ Some x → Sorted before list → passing (λ y. before y x) list ≡ at }
+    ensures rank { let list = take used places.now in (x : R.Item) → result ≡ Some x → Sorted R.before list → passing (λ y. R.before y x) list ≡ at }
 {
     let list = front(places, used);
     if at < list.len() {

@@ -4,7 +4,7 @@ use Rattle.cluster.specs.Picks.{chosen, bit, joined, pick_at}
 use Rattle.cluster.specs.Listing.{tasks_of}
 use Rattle.cluster.proofs.Loops.{picked_past, pick_some, pick-none}
 use Rattle.cluster.proofs.first_picked.Goals as goal
-use Rattle.cluster.proofs.first_picked.Goals.{in-Some, in-default}
+use Rattle.cluster.proofs.first_picked.Goals.{in-Some, in_default}
 
 pub loop-e-preserved : goal.loop-e-preserved
 loop-e-preserved g c =
@@ -20,7 +20,7 @@ loop-e-preserved g c =
       | in-default w ↦
           ap (λ x. joined x (take c.match-picked.left (chosen pick (tasks_of (drop (i + 1) xs))))) w.set-is
           ∙ (ap (λ n. joined c.loop-e.set (take n (chosen pick (tasks_of (drop (i + 1) xs))))) w.left-is
-          ∙ (pick-none xs i c.e-item.result c.loop-e-test.true c.e-item.is pick c.loop-e.set c.loop-e.left (sym c.picked.ensures ∙ w.in-default.is)
+          ∙ (pick-none xs i c.e-item.result c.loop-e-test.true c.e-item.is pick c.loop-e.set c.loop-e.left (sym c.picked.ensures ∙ w.in_default.is)
           ∙ c.loop-e.invariant))
     ]
 

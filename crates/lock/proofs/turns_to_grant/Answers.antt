@@ -5,8 +5,8 @@ use Rattle.lock.specs.Waits.{after_all, turns_to_grant}
 use Rattle.lock.proofs.Waiting.{counts-few, after_more, turns_more, after-end, turns-end, wait_within, waits_bounded, live}
 use Rattle.lock.proofs.turns_to_grant.Goals as goal
 
-pub overflow-add-turns : goal.overflow-add-turns
-overflow-add-turns g c =
+pub overflow_add-turns : goal.overflow_add-turns
+overflow_add-turns g c =
     let few = counts-few c.loop-step.waiting c.advance-ended.result.0 c.counted-more.result.0 c.counted-more.ensures.turns in
     let long : length c.args.steps.now < 2 ^ 64 = search rules in
     omega (arith, few, long, c.loop-step.invariant.2, c.loop-step-test.true)

@@ -6,8 +6,8 @@ use Rattle.ordered.proofs.Firsts.{first_more, first-here, first-none}
 use Rattle.ordered.proofs.Held.{position_here, position-none, position-fresh}
 use Rattle.ordered.proofs.find.Goals as goal
 
-pub returns-then-key-of-key : goal.returns-then-key-of-key
-returns-then-key-of-key g c =
+pub returns-then-key_of-key : goal.returns-then-key_of-key
+returns-then-key_of-key g c =
     let key = g.R.Ranking.key in let k = c.args.key in let i = c.loop-i.i in let entries = c.front-entries.result.now in
     let here = first-here (λ y. eqb (key y) k) entries i c.index-entries-i.result c.loop-i-test.true c.index-entries-i.is (grind arith) in
     let P : List g.row.R-Item.Denot → Type 0 = λ zs. Some i ≡ position key k zs in

@@ -22,14 +22,14 @@ returns-then-used-places g c =
 
 pub returns : goal.returns
 returns g c =
-    let xs = c.args.places.now in let used = c.args.used in let item = c.args.item in let at = c.place-of-at.result in
+    let xs = c.args.places.now in let used = c.args.used in let item = c.args.item in let at = c.place_of-at.result in
     let front = take used xs in
     let le : at ≤ used = search rules in
     -- `&places[0..used]` reads as `take (used - 0)`
     let is : at ≡ place g.R.Ranking.before item front = search rules in
     record {
       at = ap Some is ∙ cond_below used _ _ _ c.if-used-places.false;
-      after = moved_in xs at used item le c.if-used-places.false _ c.move-back.ensures
+      after = moved_in xs at used item le c.if-used-places.false _ c.move_back.ensures
           ∙ ap (λ n. insert front n item ++ drop (used + 1) xs) is
           ∙ ap (λ ys. ys ++ drop (used + 1) xs) (sym (ranked-is g.R.Ranking.before item front))
           ∙ cond_below used _ _ _ c.if-used-places.false;

@@ -28,7 +28,7 @@ returns g c =
     let is : Some item ≡ taken used at xs = sym (cond-true _ _ _ yes ∙ slice_get_read xs _ at item refl lt c.index-places-at.is) in
     record {
       gives = is;
-      after = moved_out xs at used c.if-at-used.false c.if-used-places.false _ c.move-up.ensures ∙ sym (cond-true _ _ _ yes);
+      after = moved_out xs at used c.if-at-used.false c.if-used-places.false _ c.move_up.ensures ∙ sym (cond-true _ _ _ yes);
       sorted = removed-sorted g.R.Ranking.before (take used xs) at;
       counts = taken-counts xs used at _ is;
     }

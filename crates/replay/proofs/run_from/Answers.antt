@@ -5,4 +5,4 @@ use Rattle.replay.proofs.run_from.Goals as goal
 
 pub returns-in-Some : goal.returns-in-Some
 returns-in-Some c =
-    subst (λ o. IfOk c.run-by.result (λ t. trace_view t ≡ run_from o (script_view c.args.script.now))) (sym c.in-Some.is) c.run-by.ensures
+    subst (λ o. IfOk c.run_by.result (λ t. trace_view t ≡ run_from o (script_view c.args.script.now))) (sym c.in-Some.is) c.run_by.ensures

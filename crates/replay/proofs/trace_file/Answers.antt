@@ -11,8 +11,8 @@ returns-then-file-gt65536 c = record {
   promise = (promised earliest_deadline earliest_lawful (loaded c.args.file.now), promised level level-lawful (loaded c.args.file.now));
 }
 
-pub returns-in-err-script : goal.returns-in-err-script
-returns-in-err-script c = record {
+pub returns-in_err-script : goal.returns-in_err-script
+returns-in_err-script c = record {
   text = search rules;
   promise = (promised earliest_deadline earliest_lawful (loaded c.args.file.now), promised level level-lawful (loaded c.args.file.now));
 }

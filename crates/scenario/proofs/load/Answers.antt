@@ -19,18 +19,18 @@ pub returns-in-Err : goal.returns-in-Err
 returns-in-Err c =
     both _ _ (c.stopped.ensures ∙ by_read c.loop-read.invariant (Err c.in-Err.fault) c.in-Err.ensures.part)
 
-pub returns-in-default : goal.returns-in-default
-returns-in-default c =
-    let e = ap (λ r. part_view (Ok r)) (sym c.in-default.is) ∙ c.in-Ok.ensures.part in
+pub returns-in_default : goal.returns-in_default
+returns-in_default c =
+    let e = ap (λ r. part_view (Ok r)) (sym c.in_default.is) ∙ c.in-Ok.ensures.part in
     both _ _ (c.ended.ensures ∙ by_read c.loop-read.invariant (Ok None) e)
 
 pub returns-in-Some-2 : goal.returns-in-Some-2
 returns-in-Some-2 c =
-    let k = c.in-ok-fault.ensures in
-    both c.args.file.now (script_view c.stopped-in-Some-2.result) (c.stopped-in-Some-2.ensures ∙ refused c.loop-read.invariant c.in-Ok.read c.in-Some.part c.in-ok-fault.field-0 c.in-Some-2.fault (script_view c.take.new.self) c.in-Ok.ensures.part c.in-Some.is k.fault c.in-Some-2.is k.after)
+    let k = c.in_ok-fault.ensures in
+    both c.args.file.now (script_view c.stopped-in-Some-2.result) (c.stopped-in-Some-2.ensures ∙ refused c.loop-read.invariant c.in-Ok.read c.in-Some.part c.in_ok-fault.field-0 c.in-Some-2.fault (script_view c.take.new.self) c.in-Ok.ensures.part c.in-Some.is k.fault c.in-Some-2.is k.after)
 
 pub loop-read-preserved : goal.loop-read-preserved
 loop-read-preserved c =
-    let k = c.in-ok-fault.ensures in
+    let k = c.in_ok-fault.ensures in
     let r = c.in-Ok.ensures in
-    further c.loop-read.invariant c.in-Ok.read c.in-Some.part c.in-ok-fault.field-0 _ _ (script_view c.take.new.self) r.part c.in-Some.is k.fault c.in-default-2.is r.file r.place k.after
+    further c.loop-read.invariant c.in-Ok.read c.in-Some.part c.in_ok-fault.field-0 _ _ (script_view c.take.new.self) r.part c.in-Some.is k.fault c.in_default-2.is r.file r.place k.after

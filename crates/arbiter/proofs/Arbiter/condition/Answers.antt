@@ -3,8 +3,8 @@ use Rattle.arbiter.specs.Memory.{contents}
 use Rattle.arbiter.proofs.Steps.{asked-the_condition}
 use Rattle.arbiter.proofs.Arbiter.condition.Goals as goal
 
-pub returns-then-too-small : goal.returns-then-too-small
-returns-then-too-small g c = asked-the_condition g.O.Order.urgency g.met.O.Order.lawful c.args.system.now c.args.task (contents c.args.self.now) _ (search rules)
+pub returns-then-too_small : goal.returns-then-too_small
+returns-then-too_small g c = asked-the_condition g.O.Order.urgency g.met.O.Order.lawful c.args.system.now c.args.task (contents c.args.self.now) _ (search rules)
 
 pub returns-then-from-system : goal.returns-then-from-system
 returns-then-from-system g c = asked-the_condition g.O.Order.urgency g.met.O.Order.lawful c.args.system.now c.args.task (contents c.args.self.now) _ (search rules)

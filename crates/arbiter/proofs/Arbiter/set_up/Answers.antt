@@ -19,7 +19,7 @@ pub returns : goal.returns
 returns g c =
     let x = tables c.args.clusters c.args.cluster-size c.args.tasks.now in
     let m = contents c.args.self.now in
-    let e : unaccepted g.O.Order.urgency x m ≡ None = sym c.in-default.ensures in
+    let e : unaccepted g.O.Order.urgency x m ≡ None = sym c.in_default.ensures in
     record {
       result = set_up_all g.O.Order.urgency g.met.O.Order.lawful x m _
           (ap (λ js. record { jobs = js; places = m.places; counts = (cleared g.O.Order.urgency m).counts }) c.clear.ensures ∙ sym (ap (λ o. kept_if o m (cleared g.O.Order.urgency m)) e))

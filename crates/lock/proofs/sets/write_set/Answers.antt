@@ -30,8 +30,8 @@ loop-t-preserved c =
           (w.buffer-is ∙ i.0 ∙ ap (λ xs. take at b ++ (xs ++ drop (at + length xs) b)) (sym e), (let l = ap length e in omega (arith, w.next-is, i.1, l)), omega (arith, w.next-is, i.2))
     ]
 
-pub overflow-add-next : goal.overflow-add-next
-overflow-add-next c = omega (arith, c.loop-t.invariant.2, c.loop-t-test.true, c.requires.1)
+pub overflow_add-next : goal.overflow_add-next
+overflow_add-next c = omega (arith, c.loop-t.invariant.2, c.loop-t-test.true, c.requires.1)
 
 pub returns : goal.returns
 returns c =

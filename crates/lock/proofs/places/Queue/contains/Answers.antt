@@ -9,5 +9,5 @@ use Rattle.lock.proofs.places.Queue.contains.Goals as goal
 pub returns : goal.returns
 returns c =
     let r = row c.args.self.now in let t = c.args.task in let n = c.size-n.result in
-    ap (λ x. ltb x n) (c.place-in.ensures.is ∙ ap (λ xs. index xs t) (c.part.ensures ∙ take_all n r (omega (arith, c.size-n.ensures.count))))
+    ap (λ x. ltb x n) (c.place_in.ensures.is ∙ ap (λ xs. index xs t) (c.part.ensures ∙ take_all n r (omega (arith, c.size-n.ensures.count))))
     ∙ ap (ltb (index r t)) c.size-n.ensures.count ∙ index-has r t

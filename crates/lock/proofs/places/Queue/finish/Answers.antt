@@ -20,8 +20,8 @@ holds_by xs p k t i is e =
 
 pub returns-then-i-k : goal.returns-then-i-k
 returns-then-i-k c =
-    let s = c.args.self.now in let xs = row s in let p = c.args.places in let t = c.args.task in let k = c.min-k.result in let i = c.place-in-i.result in
-    let w = holds_by xs p k t i (omega (arith, c.min-k.ensures, c.size-n.ensures.count)) (c.place-in-i.ensures.is ∙ ap (λ ys. index ys t) c.part.ensures) in
+    let s = c.args.self.now in let xs = row s in let p = c.args.places in let t = c.args.task in let k = c.min-k.result in let i = c.place_in-i.result in
+    let w = holds_by xs p k t i (omega (arith, c.min-k.ensures, c.size-n.ensures.count)) (c.place_in-i.ensures.is ∙ ap (λ ys. index ys t) c.part.ensures) in
     let h : fifo_holds (placed p s) t ≡ false = sym (has-take p xs t) ∙ w.0 ∙ le-ltb i k c.if-i-k.true in
     let mk : List ℕ → Fifo = λ r. record { places = p; row = r } in
     record {
@@ -29,13 +29,13 @@ returns-then-i-k c =
       outcome = sym (ap (λ b. cond b (took (first (drop p xs)) true) refused) h);
     }
 
-pub remove-at-requires : goal.remove-at-requires
-remove-at-requires c = omega (arith, c.if-i-k.false, c.min-k.ensures, c.size-n.ensures.count)
+pub remove_at-requires : goal.remove_at-requires
+remove_at-requires c = omega (arith, c.if-i-k.false, c.min-k.ensures, c.size-n.ensures.count)
 
 pub returns : goal.returns
 returns c =
-    let s = c.args.self.now in let xs = row s in let p = c.args.places in let t = c.args.task in let k = c.min-k.result in let i = c.place-in-i.result in
-    let w = holds_by xs p k t i (omega (arith, c.min-k.ensures, c.size-n.ensures.count)) (c.place-in-i.ensures.is ∙ ap (λ ys. index ys t) c.part.ensures) in
+    let s = c.args.self.now in let xs = row s in let p = c.args.places in let t = c.args.task in let k = c.min-k.result in let i = c.place_in-i.result in
+    let w = holds_by xs p k t i (omega (arith, c.min-k.ensures, c.size-n.ensures.count)) (c.place_in-i.ensures.is ∙ ap (λ ys. index ys t) c.part.ensures) in
     let there : has (take p xs) t ≡ true = w.0 ∙ lt-ltb i k c.if-i-k.false in
     let h : fifo_holds (placed p s) t ≡ true = sym (has-take p xs t) ∙ there in
     let at : i ≡ index xs t = w.1 ∙ place-front p xs t there in
@@ -51,7 +51,7 @@ returns c =
       | else-k-n w ↦ ap bits w.granted-is ∙ granted_none xs p (omega (arith, w.if-k-n.false, c.min-k.ensures, c.size-n.ensures.count))
     ] in
     record {
-      after = ap mk (c.remove-at.ensures ∙ ap (λ j. take j xs ++ drop (suc j) xs) at ∙ sym (removed-parts xs t (and_parts (has xs t) _ h).0))
+      after = ap mk (c.remove_at.ensures ∙ ap (λ j. take j xs ++ drop (suc j) xs) at ∙ sym (removed-parts xs t (and_parts (has xs t) _ h).0))
           ∙ sym (ap (λ b. mk (cond b (removed xs t) xs)) h);
       outcome = ap out granted ∙ sym (ap (λ b. cond b (took (first (drop p xs)) true) refused) h);
     }

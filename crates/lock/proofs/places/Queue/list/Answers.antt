@@ -11,8 +11,8 @@ returns-then-count-buffer c =
     let short : length buffer < length (drop p xs) = simp length-drop (omega (arith, c.if-count-buffer.true, c.min-k.ensures, c.size-n.ensures.count)) in
     record { count = refused-count (drop p xs) buffer short; writes = refused-writes (drop p xs) buffer short }
 
-pub copy-from-slice-requires : goal.copy-from-slice-requires
-copy-from-slice-requires c =
+pub copy_from_slice-requires : goal.copy_from_slice-requires
+copy_from_slice-requires c =
     let xs = row c.args.self.now in let n = c.size-n.result in let k = c.min-k.result in
     simp length-take (omega (arith, c.if-count-buffer.false, c.min-k.ensures, c.size-n.ensures.count, ap length c.part.ensures, length-drop k (take n xs), length-take n xs))
 
@@ -20,7 +20,7 @@ pub returns : goal.returns
 returns c =
     let xs = row c.args.self.now in let p = c.args.places in let n = c.size-n.result in let k = c.min-k.result in let buffer = c.args.buffer.now in
     let is : n - k ≡ length (drop p xs) = simp length-drop (omega (arith, c.min-k.ensures, c.size-n.ensures.count)) in
-    let all : c.copy-from-slice.new.self ≡ drop p xs = c.copy-from-slice.ensures.after ∙ c.part.ensures ∙ behind xs p k n c.size-n.ensures.count c.min-k.ensures in
+    let all : c.copy_from_slice.new.self ≡ drop p xs = c.copy_from_slice.ensures.after ∙ c.part.ensures ∙ behind xs p k n c.size-n.ensures.count c.min-k.ensures in
     let end : n - k - 0 ≡ n - k = omega arith in
     record {
       count = taken-count (drop p xs) buffer (n - k) is c.if-count-buffer.false;

@@ -4,8 +4,8 @@ use Rattle.std.proofs.lemmas.List.{length-take, take-take}
 use Rattle.std.proofs.lemmas.Slice.{between_is}
 use Rattle.lock.proofs.places.Queue.part.Goals as goal
 
-pub slice-bounds-result-end : goal.slice-bounds-result-end
-slice-bounds-result-end c =
+pub slice_bounds-result-end : goal.slice_bounds-result-end
+slice_bounds-result-end c =
     let s = c.args.self.now in
     let full : length s.items ≡ 64 = search rules in
     omega (arith, full, length-take s.len s.items, c.requires.1)

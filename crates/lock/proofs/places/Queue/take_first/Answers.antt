@@ -6,4 +6,4 @@ use Rattle.lock.proofs.places.Queue.take_first.Goals as goal
 pub returns : goal.returns
 returns c =
     let s = c.args.self.now in
-    record { gives = sym (get_or-take s.len s.items 0 0 (omega (arith, c.requires, length-take s.len s.items))); rest = c.remove-at.ensures }
+    record { gives = sym (get_or-take s.len s.items 0 0 (omega (arith, c.requires, length-take s.len s.items))); rest = c.remove_at.ensures }

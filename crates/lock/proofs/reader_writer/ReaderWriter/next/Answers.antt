@@ -16,8 +16,8 @@ pub returns : goal.returns
 returns c =
     let s = c.args.self.now in let xs = row s.writers in let rs = bits s.readers in
     let some : 0 < length xs = search rules in
-    let w : c.take-first-writer.result ≡ get_or xs 0 0 = c.take-first-writer.ensures.gives in
+    let w : c.take_first-writer.result ≡ get_or xs 0 0 = c.take_first-writer.ensures.gives in
     record {
-      after = ap (λ x. mk (writing x) (row c.take-first-writer.new.self) rs) w ∙ ap (λ ws. mk (writing (get_or xs 0 0)) ws rs) c.take-first-writer.ensures.rest ∙ next_some xs rs some;
+      after = ap (λ x. mk (writing x) (row c.take_first-writer.new.self) rs) w ∙ ap (λ ws. mk (writing (get_or xs 0 0)) ws rs) c.take_first-writer.ensures.rest ∙ next_some xs rs some;
       granted = c.masked.ensures ∙ ap few w ∙ head_some xs some;
     }
