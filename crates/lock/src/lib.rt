@@ -1,5 +1,7 @@
 // Locks: one interface with its laws, three kinds that keep them, and a plain value that is any of
 // them.
+#![tactic(auto)]
+
 ghost use Rattle.std.specs.Prelude.{◌≡◌, ◌≤◌, not, ◌&&◌, if◌then◌else◌};
 ghost use Rattle.lock.specs.Words.{tasks as TasksOf};
 ghost use Rattle.lock.specs.Numbers.{refusal_number as RefusalNumber};

@@ -1,5 +1,5 @@
 -- Tasks that may be absent, and `put`.
-use Rattle.std.proofs.Common.{◌≡◌, ℕ, ◌-◌, eqb, ◌⊎◌, Some, None, Option, sym, refl, subst, inl, inr, ⊎_elim, arith}
+use Rattle.std.proofs.Common.{◌≡◌, ℕ, eqb, ◌⊎◌, Some, None, Option, sym, refl, subst, inl, inr, ⊎_elim, arith}
 use Rattle.std.proofs.lemmas.Bool.{cases_eq, eq-eqb, ne_eqb, cond-true, cond-false}
 use Rattle.model.specs.Rules.{put}
 

@@ -1,4 +1,6 @@
 // The arbiter's words, as types of the code.
+#![tactic(auto)]
+
 ghost use Rattle.std.specs.Prelude.{◌≡◌};
 ghost use Rattle.model.specs.Words.{holds as HoldsIn, runs as RunsIn};
 ghost use Rattle.model.specs.Numbers.{condition_number as ConditionNumber, refusal_number as RefusalNumber, event_task as EventTask, event_kind as EventKind};

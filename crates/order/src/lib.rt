@@ -1,5 +1,7 @@
 // Orders of jobs: which parameters a task may have, what mark a job is given at its release, and
 // which of two jobs goes first.
+#![tactic(auto)]
+
 ghost use Rattle.std.specs.Prelude.{◌≡◌};
 ghost use Rattle.order.specs.Urgency.{Urgency, Lawful};
 ghost use Rattle.order.specs.Supplied.{earliest_deadline as EarliestDeadlineUrgency, level as LevelUrgency};

@@ -1,5 +1,7 @@
 // A list kept in order in the first places of a lent slice, for every kind of entry whose order
 // keeps the law of `Ranking`.
+#![tactic(auto)]
+
 ghost use Rattle.std.specs.Prelude.{◌≡◌, ℕ, ◌+◌, ◌-◌, ◌≤◌, Bool, ◌∷◌, ◌++◌, length, take, drop, if◌then◌else◌, Some, None, nat_lt};
 ghost use Rattle.std.specs.List.{slice_get, remove};
 ghost use Rattle.ordered.specs.Ranks.{Ranks, place, ranked, Sorted, Fresh, passing, found};
