@@ -5,8 +5,8 @@ usage: python3 tools/respell.py       at the top of the repository, once, after 
 
 tools/respell.txt has the table, an old and a new name a line. A definition, a field or a
 constructor is in snake case, a type in camel case, and a lemma joins the names that it speaks of
-by a dash. Whole names alone are changed: in specs/ and proofs/ outside comments, in a quoted name
-of a clause in src/, and between backticks in the documents.
+by a dash. Whole names alone are changed: in specs/ and proofs/ outside comments, in the clauses of
+src/, and between backticks in the documents.
 """
 import os
 import re
@@ -43,6 +43,16 @@ def quoted(text):
     return re.sub(r"«([^»]+)»", one, text)
 
 
+def clauses(text):
+    # a name with a dash stands in clauses and their imports alone
+    def line(code):
+        if code.lstrip().startswith("//"):
+            return code
+        return re.sub(STOPS, lambda m: TABLE.get(m.group(0), m.group(0)) if "-" in m.group(0) else m.group(0), code)
+
+    return "\n".join(line(code) for code in quoted(text).split("\n"))
+
+
 def main():
     for root, folders, files in os.walk("."):
         folders[:] = [f for f in folders if f not in (".git", "out", "target", "tools")]
@@ -51,7 +61,7 @@ def main():
             if name.endswith(".antt"):
                 turn = lambda t: "\n".join(antt(line) for line in t.split("\n"))
             elif name.endswith(".rt") or name.endswith(".edit"):
-                turn = quoted
+                turn = clauses
             elif name.endswith(".md"):
                 turn = ticked
             else:

@@ -1,6 +1,6 @@
 // The text of a trace.
 ghost use Rattle.std.specs.Prelude.{◌≡◌, ◌++◌, IfOk, Some, string_bytes, decimal, OnOk};
-ghost use Rattle.report.specs.Text.{answer-text, comma, set-bytes, sets-bytes, line-bytes, lines-bytes, head_bytes, stop-bytes};
+ghost use Rattle.report.specs.Text.{answer_text, comma, set_bytes, sets_bytes, line_bytes, lines_bytes, head_bytes, stop_bytes};
 
 use arbiter::Outcome;
 use model::{Answer, Event, Refusal};
@@ -12,7 +12,7 @@ use std::fmt;
 struct Reply(Result<Answer, Refusal>);
 
 impl fmt::Display for Reply {
-    ghost output = { λ r. Some (answer-text r.0) };
+    ghost output = { λ r. Some (answer_text r.0) };
 
     fn fmt<W: fmt::Write>(&self, f: &mut fmt::Formatter<W>) -> fmt::Result {
         match self.0 {
@@ -38,7 +38,7 @@ fn add_task(tasks: &mut String, heap: Global, task: u8) -> Result<(), AllocError
 
 // The tasks of a set, ascending with commas in between, or a dash.
 fn set_text(heap: Global, set: u64) -> Result<String, AllocError>
-    ensures { IfOk result (λ s. string_bytes s ≡ set-bytes set) }
+    ensures { IfOk result (λ s. string_bytes s ≡ set_bytes set) }
 {
     let mut tasks = String::new(heap);
     for task in 0..64u8 {
@@ -55,7 +55,7 @@ fn set_text(heap: Global, set: u64) -> Result<String, AllocError>
 
 // Each cluster's set, after a space.
 fn push_sets(text: &mut String, heap: Global, sets: &[u64]) -> Result<(), AllocError>
-    ensures { OnOk result (string_bytes text.new ≡ string_bytes text.old ++ sets-bytes sets.now) }
+    ensures { OnOk result (string_bytes text.new ≡ string_bytes text.old ++ sets_bytes sets.now) }
 {
     for set in sets {
         let tasks = set_text(heap, *set)?;
@@ -74,7 +74,7 @@ pub fn push_line(
     answer: Result<Answer, Refusal>,
     sets: &[u64],
 ) -> Result<(), AllocError>
-    ensures { OnOk result (string_bytes text.new ≡ string_bytes text.old ++ line-bytes number event answer sets.now) }
+    ensures { OnOk result (string_bytes text.new ≡ string_bytes text.old ++ line_bytes number event answer sets.now) }
 {
     let kind = event.kind();
     let task = event.task();
@@ -109,7 +109,7 @@ pub fn push_stop(
     number: u8,
     place: usize,
 ) -> Result<(), AllocError>
-    ensures { OnOk result (string_bytes text.new ≡ string_bytes text.old ++ stop-bytes number place) }
+    ensures { OnOk result (string_bytes text.new ≡ string_bytes text.old ++ stop_bytes number place) }
 {
     let stop = format!(in heap; "stop {number} at {place}\n")?;
     text.push_str(stop.as_str())
@@ -123,7 +123,7 @@ pub fn push_lines(
     outcomes: &[Outcome],
     clusters: usize,
 ) -> Result<(), AllocError>
-    ensures { OnOk result (string_bytes text.new ≡ string_bytes text.old ++ lines-bytes 1 clusters events.now outcomes.now) }
+    ensures { OnOk result (string_bytes text.new ≡ string_bytes text.old ++ lines_bytes 1 clusters events.now outcomes.now) }
 {
     let shown = clusters.min(8);
     for (i, (event, outcome)) in events.iter().zip(outcomes).enumerate() {

@@ -1,8 +1,8 @@
 // The scenario file: its records, their reader, and the loader that puts them together.
 ghost use Rattle.std.specs.Prelude.{◌≡◌, IfOk};
-ghost use Rattle.scenario.specs.Format.{fault_number as FaultNumber, record-at, split-view, next-at, place_after, part-view};
-ghost use Rattle.scenario.specs.Encoding.{Reads-back};
-ghost use Rattle.scenario.specs.Loading.{script-view, «misplaced» as Misplaced, misplaced-in, taken, «stopped» as Stopped, «ended» as Ended, loaded};
+ghost use Rattle.scenario.specs.Format.{fault_number as FaultNumber, record_at, split_view, next_at, place_after, part_view};
+ghost use Rattle.scenario.specs.Encoding.{ReadsBack};
+ghost use Rattle.scenario.specs.Loading.{script_view, «misplaced» as Misplaced, misplaced_in, taken, «stopped» as Stopped, «ended» as Ended, loaded};
 
 use model::{Event, Task};
 use std::alloc::{AllocError, Global};
@@ -66,7 +66,7 @@ pub struct Part<'a> {
 
 // The record at the start of the bytes, and the bytes after it.
 fn split(bytes: &[u8]) -> Result<(Record, &[u8]), Fault>
-    ensures { split-view result ≡ record-at bytes.now }
+    ensures { split_view result ≡ record_at bytes.now }
 {
     match bytes {
         [1, clusters, cluster_size, order, rest @ ..] => {
@@ -121,9 +121,9 @@ impl<'a> Reader<'a> {
 
     /// The next record, or None at the end; a fault does not move the reader.
     pub fn next(&mut self) -> Result<Option<Part<'a>>, Fault>
-        ensures part { part-view result ≡ next-at self.old.file.now self.old.at }
+        ensures part { part_view result ≡ next_at self.old.file.now self.old.at }
         ensures file { self.new.file.now ≡ self.old.file.now }
-        ensures place { self.new.at ≡ place_after self.old.at (next-at self.old.file.now self.old.at) }
+        ensures place { self.new.at ≡ place_after self.old.at (next_at self.old.file.now self.old.at) }
     {
         let at = self.at;
         if at >= self.file.len() {
@@ -163,8 +163,8 @@ fn misplaced(header_seen: bool, event_seen: bool, record: Record) -> Option<Faul
 impl Script {
     // Takes a record that may stand where it does, or says why it may not.
     fn take(&mut self, at: usize, record: Record) -> Result<Option<Fault>, AllocError>
-        ensures fault { IfOk result (λ f. f ≡ misplaced-in (script-view self.old) «record») }
-        ensures after { IfOk result (λ f. script-view self.new ≡ taken (script-view self.old) at «record» f) }
+        ensures fault { IfOk result (λ f. f ≡ misplaced_in (script_view self.old) «record») }
+        ensures after { IfOk result (λ f. script_view self.new ≡ taken (script_view self.old) at «record» f) }
     {
         let fault = misplaced(self.header.is_some(), !self.events.is_empty(), record);
         if fault.is_some() {
@@ -184,7 +184,7 @@ impl Script {
     }
 
     fn stopped(self, fault: Fault, at: usize) -> Script
-        ensures { script-view result ≡ Stopped (script-view self) fault at }
+        ensures { script_view result ≡ Stopped (script_view self) fault at }
     {
         Script {
             stop: Some(Stop { fault, at }),
@@ -194,7 +194,7 @@ impl Script {
 
     // At the end of the file: one with no header is at fault.
     fn ended(self, at: usize) -> Script
-        ensures { script-view result ≡ Ended (script-view self) at }
+        ensures { script_view result ≡ Ended (script_view self) at }
     {
         match self.header {
             None => self.stopped(Fault::HeaderMisplaced, at),
@@ -205,8 +205,8 @@ impl Script {
 
 /// Takes the records of a file in turn, up to its end or to the first fault.
 pub fn load(heap: Global, file: &[u8]) -> Result<Script, AllocError>
-    ensures script { IfOk result (λ s. script-view s ≡ loaded file.now) }
-    ensures back { IfOk result (λ s. Reads-back file.now (script-view s)) }
+    ensures script { IfOk result (λ s. script_view s ≡ loaded file.now) }
+    ensures back { IfOk result (λ s. ReadsBack file.now (script_view s)) }
 {
     let mut script = Script {
         header: None,

@@ -17,7 +17,7 @@ loop-e-preserved g c =
           ∙ (ap (λ n. joined (bit_or c.loop-e.set (bit w.in-Some.t)) (take n (chosen pick (tasks_of (drop (i + 1) xs))))) w.left-is
           ∙ (pick_some xs i c.e-item.result c.loop-e-test.true c.e-item.is pick c.loop-e.set c.loop-e.left w.in-Some.t (sym c.picked.ensures ∙ w.in-Some.is) c.if-left-eq0.false
           ∙ c.loop-e.invariant))
-      | in-default w ↦
+      | in_default w ↦
           ap (λ x. joined x (take c.match-picked.left (chosen pick (tasks_of (drop (i + 1) xs))))) w.set-is
           ∙ (ap (λ n. joined c.loop-e.set (take n (chosen pick (tasks_of (drop (i + 1) xs))))) w.left-is
           ∙ (pick-none xs i c.e-item.result c.loop-e-test.true c.e-item.is pick c.loop-e.set c.loop-e.left (sym c.picked.ensures ∙ w.in_default.is)
