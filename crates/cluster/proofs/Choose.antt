@@ -1,5 +1,5 @@
 -- The ready jobs of a cluster, by the places at which they count
-use Rattle.std.proofs.Common.{◌≡◌, ℕ, ◌-◌, ◌<◌, Bool, true, false, cond, ◌&&◌, eqb, ltb, ◌⊎◌, List, [], ◌∷◌, take, Some, None, Option, sym, refl, ap, ◌∙◌, subst, ⊎_elim}
+use Rattle.std.proofs.Common.{◌≡◌, ℕ, ◌<◌, Bool, true, false, cond, ◌&&◌, eqb, ltb, List, [], ◌∷◌, take, Some, None, Option, sym, refl, ap, ◌∙◌, subst, ⊎_elim}
 use Rattle.std.proofs.lemmas.Bool.{cases_Bool, cases_eq, and_parts, and_from, and_left, and_right, or_cases, or_left, or_right, both_ways, eqb-true, eq-eqb, ne_eqb, cond-true, cond-false, not-true, not_from_false}
 use Rattle.cluster.specs.declared.Entry.{Entry}
 use Rattle.ordered.specs.Ranks.{Sorted, Leads}

@@ -1,4 +1,6 @@
 // A cluster: its pending jobs as an ordered list in lent places, and which of them are scheduled.
+#![tactic(auto)]
+
 ghost use Rattle.std.specs.Prelude.{◌≡◌, take, set, slice_set};
 ghost use Rattle.std.specs.List.{slice_get};
 ghost use Rattle.cluster.specs.Listing.{urgent, part};

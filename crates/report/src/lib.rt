@@ -1,4 +1,6 @@
 // The text of a trace.
+#![tactic(auto)]
+
 ghost use Rattle.std.specs.Prelude.{◌≡◌, ◌++◌, IfOk, Some, string_bytes, decimal, OnOk};
 ghost use Rattle.report.specs.Text.{answer_text, comma, set_bytes, sets_bytes, line_bytes, lines_bytes, head_bytes, stop_bytes};
 

@@ -1,4 +1,6 @@
 // The scenario file: its records, their reader, and the loader that puts them together.
+#![tactic(auto)]
+
 ghost use Rattle.std.specs.Prelude.{◌≡◌, IfOk};
 ghost use Rattle.scenario.specs.Format.{fault_number as FaultNumber, record_at, split_view, next_at, place_after, part_view};
 ghost use Rattle.scenario.specs.Encoding.{ReadsBack};

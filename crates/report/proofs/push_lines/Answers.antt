@@ -8,7 +8,7 @@ use Rattle.report.proofs.push_lines.Goals as goal
 pub loop-i-init : goal.loop-i-init
 loop-i-init c =
     let s : iter_rest (zip_second c.zip.result) ≡ c.args.outcomes.now = c.zip.ensures.second.0 in
-    simp (c.into_iter-i-iterator.ensures.into-iter-gives, c.enumerate-i-items.ensures.source, c.enumerate-i-items.ensures.count, c.zip.ensures.first, s, c.iter.ensures.rest)
+    simp (c.into_iter-i-iterator.ensures.into_iter_gives, c.enumerate-i-items.ensures.source, c.enumerate-i-items.ensures.count, c.zip.ensures.first, s, c.iter.ensures.rest)
 
 pub loop-i-preserved : goal.loop-i-preserved
 loop-i-preserved c =

@@ -7,7 +7,7 @@ use Rattle.arbiter.proofs.Arbiter.set_up.Goals as goal
 
 pub returns-in-Some : goal.returns-in-Some
 returns-in-Some g c =
-    let x = tables c.args.clusters c.args.cluster-size c.args.tasks.now in
+    let x = tables c.args.clusters c.args.cluster_size c.args.tasks.now in
     let m = contents c.args.self.now in
     let e : unaccepted g.O.Order.urgency x m ≡ Some c.in-Some.refusal = sym c.in-Some.ensures in
     record {
@@ -17,7 +17,7 @@ returns-in-Some g c =
 
 pub returns : goal.returns
 returns g c =
-    let x = tables c.args.clusters c.args.cluster-size c.args.tasks.now in
+    let x = tables c.args.clusters c.args.cluster_size c.args.tasks.now in
     let m = contents c.args.self.now in
     let e : unaccepted g.O.Order.urgency x m ≡ None = sym c.in_default.ensures in
     record {
