@@ -1,4 +1,6 @@
 // A scenario run through an arbiter, and its trace.
+#![tactic(auto)]
+
 ghost use Rattle.std.specs.Prelude.{◌≡◌, ◌≤◌, [], length, IfOk, vec_len, string_bytes};
 ghost use Rattle.scenario.specs.Loading.{script_view as ScriptView, loaded};
 ghost use Rattle.order.specs.Supplied.{earliest_deadline as EarliestDeadlineUrgency, level as LevelUrgency};

@@ -1,5 +1,7 @@
 // Reads a scenario from standard input and prints its trace. The status is 0 where the file ran
 // to its end, and 1 after a stop line.
+#![tactic(auto)]
+
 use anyhow::anyhow;
 use std::io::Read;
 

@@ -1,5 +1,6 @@
 // Trials of the whole path from a scenario's bytes to its trace, and of the calls that a
 // scenario cannot make. What it prints is compared with a stored text.
+#![tactic(auto)]
 
 mod calls;
 mod files;
