@@ -11,7 +11,7 @@ use Rattle.model.specs.declared.Condition.TheVariants.{Idle, Computing}
 use Rattle.model.specs.declared.Event.{Event}
 use Rattle.model.specs.declared.Event.TheVariants.{Release, Finish}
 use Rattle.model.specs.declared.Answer.{Answer}
-use Rattle.model.specs.declared.Answer.TheVariants.{Accepted as Ok-answer}
+use Rattle.model.specs.declared.Answer.TheVariants.{Accepted as OkAnswer}
 use Rattle.model.specs.declared.Refusal.{Refusal}
 use Rattle.model.specs.Words.{State, is_pending, pending}
 use Rattle.model.specs.Rules.{Question, scheduled_set_of, condition_of_job, acting, asking, put, arrive, become, after, refusal, moved, unless, kept_if}
@@ -124,7 +124,7 @@ module _ {Mark : Type 0} (order : Urgency Mark) (law : Lawful order.before) (y :
   either m n s z None rep h = h refl
   either m n s z (Some f) rep h = rep
 
-  still : (o : Option Refusal) (m n : Contents Mark) → is_ok (unless o Ok-answer) ≡ false → kept_if o m n ≡ m
+  still : (o : Option Refusal) (m n : Contents Mark) → is_ok (unless o OkAnswer) ≡ false → kept_if o m n ≡ m
   still None m n e = absurd (true≢false e)
   still (Some f) m n e = refl
 
@@ -133,7 +133,7 @@ module _ {Mark : Type 0} (order : Urgency Mark) (law : Lawful order.before) (y :
     replies = re;
     stores = st;
     unchanged = λ h. st ∙ still (turned_away order y old e) old (stored order y old e) (ap is_ok (sym re) ∙ h);
-    answers = λ calls at. re ∙ ap (λ o. unless o Ok-answer) (turned_away-is order law y old calls at e);
+    answers = λ calls at. re ∙ ap (λ o. unless o OkAnswer) (turned_away-is order law y old calls at e);
     reaches = λ calls at. record {
       accepted = at.accepted;
       stands = subst (λ x. Represents order y x (after (plan_of order y) (acting e ∷ calls))) (sym (st ∙ ap (λ o. kept_if o old (stored order y old e)) (turned_away-is order law y old calls at e)))

@@ -1,13 +1,13 @@
 -- The bytes of a scenario load as that scenario: each record is read back, with what follows it left.
 use Rattle.std.proofs.Common.{◌≡◌, ℕ, pred, ◌+◌, ◌-◌, ◌*◌, ◌/◌, ◌%◌, ◌^◌, ◌<◌, ◌≤◌, false, eqb, List, [], ◌∷◌, ◌++◌, length, drop, Some, None, Ok, sym, refl, ap, ◌∙◌, append_assoc, append-nil, add-zero, mod-eq_of_lt, arith, lit<, length-append, length-drop}
 use native.Mathlib.Nat.{div-div-eq-div-mul}
-use Rattle.std.specs.List.{flat_map, AllByRecursion as All}
+use Rattle.std.specs.List.{flat_map, AllByRecursion}
 use Rattle.std.proofs.lemmas.List.{take_at, drop_at, drop-drop}
 use Rattle.std.proofs.lemmas.Bool.{le-ltb, le-leb, ne_eqb}
-use Rattle.model.specs.declared.Task.{Task as Task-of}
-use Rattle.model.specs.declared.Event.{Event as Event-of}
+use Rattle.model.specs.declared.Task.{Task as TaskOf}
+use Rattle.model.specs.declared.Event.{Event as EventOf}
 use Rattle.model.specs.declared.Event.TheVariants.{Release, Finish}
-use Rattle.scenario.specs.declared.Header.{Header as Header-of}
+use Rattle.scenario.specs.declared.Header.{Header as HeaderOf}
 use Rattle.scenario.specs.declared.Record.{Record}
 use Rattle.scenario.specs.declared.Record.TheVariants.{Header, Task, Event}
 use Rattle.scenario.specs.Format.{record_at, next_at}
@@ -32,13 +32,13 @@ word_back n h =
     let x₄ : n / 16777216 % 256 ≡ n / 16777216 = mod-eq_of_lt top in
     joined_bytes n (n / 256) (n / 65536) (n / 16777216) (n % 256) (n / 256 % 256) (n / 65536 % 256) (n / 16777216 % 256) x₁ x₂ x₃ x₄
 
-header-back : (h : Header-of) (rest : List ℕ) → Ok (Header h, rest) ≡ record_at (encode_header h ++ rest)
+header-back : (h : HeaderOf) (rest : List ℕ) → Ok (Header h, rest) ≡ record_at (encode_header h ++ rest)
 header-back h rest = rw (le-ltb (length (encode_header h ++ rest)) 4 (omega arith))
 
-task-back : (t : Task-of) (rest : List ℕ) → TaskFits t → Ok (Task t, rest) ≡ record_at (encode_task t ++ rest)
+task-back : (t : TaskOf) (rest : List ℕ) → TaskFits t → Ok (Task t, rest) ≡ record_at (encode_task t ++ rest)
 task-back t rest f = rw (le-ltb (length (encode_task t ++ rest)) 6 (omega arith), word_back t.parameter f.1)
 
-event_back : (e : Event-of) (rest : List ℕ) → EventFits e → Ok (Event e, rest) ≡ record_at (encode_event e ++ rest)
+event_back : (e : EventOf) (rest : List ℕ) → EventFits e → Ok (Event e, rest) ≡ record_at (encode_event e ++ rest)
 event_back (Release t i) rest f = rw (le-ltb (length (encode_event (Release t i) ++ rest)) 6 (omega arith), word_back i f.1)
 event_back (Finish t) rest f = rw (le-ltb (length (encode_event (Finish t) ++ rest)) 2 (omega arith))
 
@@ -78,11 +78,11 @@ ending file p n s b =
     (omega (arith, b.within), one n file p s b.enough ∙ rw (le-leb (length file) p h))
 
 -- a script that has a header and no stop
-abbrev script : Header-of → List Task-of → List Event-of → ℕ → Loaded
+abbrev script : HeaderOf → List TaskOf → List EventOf → ℕ → Loaded
 script h ts es start = record { header = Some h; tasks = ts; events = es; start = start; stop = None }
 
 -- more events after the first
-later : (es : List Event-of) (file : List ℕ) (p n : ℕ) (h : Header-of) (ts : List Task-of) (done : List Event-of) (q : ℕ) → All EventFits es → 0 < length done → Before file p n (flat_map encode_event es) → loaded_from n file p (script h ts done q) ≡ script h ts (done ++ es) q
+later : (es : List EventOf) (file : List ℕ) (p n : ℕ) (h : HeaderOf) (ts : List TaskOf) (done : List EventOf) (q : ℕ) → AllByRecursion EventFits es → 0 < length done → Before file p n (flat_map encode_event es) → loaded_from n file p (script h ts done q) ≡ script h ts (done ++ es) q
 later [] file p n h ts done q f l b =
     (ending file p n (script h ts done q) b).1 ∙ ap (λ es. script h ts es q) (sym (append-nil done))
 later (e ∷ es) file p n h ts done q f l b =
@@ -95,7 +95,7 @@ later (e ∷ es) file p n h ts done q f l b =
     t ∙ ap (loaded_from (pred n) file (p + length (encode_event e))) u ∙ g ∙ ap (λ x. script h ts x q) (append_assoc done (e ∷ []) es)
 
 -- the events from the first on, which is the start
-events-back : (es : List Event-of) (file : List ℕ) (p n : ℕ) (h : Header-of) (ts : List Task-of) → All EventFits es → Before file p n (flat_map encode_event es) → loaded_from n file p (script h ts [] (length file)) ≡ script h ts es p
+events-back : (es : List EventOf) (file : List ℕ) (p n : ℕ) (h : HeaderOf) (ts : List TaskOf) → AllByRecursion EventFits es → Before file p n (flat_map encode_event es) → loaded_from n file p (script h ts [] (length file)) ≡ script h ts es p
 events-back [] file p n h ts f b =
     let e = ending file p n (script h ts [] (length file)) b in
     e.1 ∙ ap (script h ts []) (sym e.0)
@@ -106,7 +106,7 @@ events-back (e ∷ es) file p n h ts f b =
     ∙ later es file (p + length (encode_event e)) (pred n) h ts (e ∷ []) p f.1 (lit< tt) o
 
 -- the tasks, and then the events
-tasks-back : (ts : List Task-of) (es : List Event-of) (file : List ℕ) (p n : ℕ) (h : Header-of) (done : List Task-of) → All TaskFits ts → All EventFits es → Before file p n (flat_map encode_task ts ++ flat_map encode_event es) → loaded_from n file p (script h done [] (length file)) ≡ script h (done ++ ts) es (p + length (flat_map encode_task ts))
+tasks-back : (ts : List TaskOf) (es : List EventOf) (file : List ℕ) (p n : ℕ) (h : HeaderOf) (done : List TaskOf) → AllByRecursion TaskFits ts → AllByRecursion EventFits es → Before file p n (flat_map encode_task ts ++ flat_map encode_event es) → loaded_from n file p (script h done [] (length file)) ≡ script h (done ++ ts) es (p + length (flat_map encode_task ts))
 tasks-back [] es file p n h done f g b =
     events-back es file p n h done g b ∙ rw (append-nil, add-zero)
 tasks-back (t ∷ ts) es file p n h done f g b =
@@ -119,7 +119,7 @@ tasks-back (t ∷ ts) es file p n h done f g b =
     ∙ ap (λ x. script h x es (p + length (encode_task t) + length (flat_map encode_task ts))) (append_assoc done (t ∷ []) ts)
     ∙ ap (script h (done ++ t ∷ ts) es) k
 
-round_trip : (h : Header-of) (ts : List Task-of) (es : List Event-of) → All TaskFits ts → All EventFits es → loaded (encode h ts es) ≡ scenario h ts es
+round_trip : (h : HeaderOf) (ts : List TaskOf) (es : List EventOf) → AllByRecursion TaskFits ts → AllByRecursion EventFits es → loaded (encode h ts es) ≡ scenario h ts es
 round_trip h ts es ft fe =
     let file = encode h ts es in
     let rest = flat_map encode_task ts ++ flat_map encode_event es in

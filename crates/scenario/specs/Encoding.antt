@@ -1,6 +1,6 @@
 -- The bytes of a scenario, and what loading them gives back.
 use Rattle.std.specs.Prelude.{◌≡◌, ℕ, ◌/◌, ◌%◌, ◌^◌, ◌<◌, List, [], ◌∷◌, ◌++◌, length, Some, None}
-use Rattle.std.specs.List.{flat_map, AllByRecursion as All}
+use Rattle.std.specs.List.{flat_map, AllByRecursion}
 use Rattle.model.specs.declared.Task.{Task}
 use Rattle.model.specs.declared.Event.{Event}
 use Rattle.model.specs.declared.Event.TheVariants.{Release, Finish}
@@ -48,4 +48,4 @@ scenario h ts es = record { header = Some h; tasks = ts; events = es; start = le
 -- what the bytes of any scenario are loaded as: that scenario
 abbrev pub ReadsBack : List ℕ → Loaded → Type 0
 ReadsBack file s =
-    (h : Header) (ts : List Task) (es : List Event) → HeaderFits h → All TaskFits ts → All EventFits es → file ≡ encode h ts es → s ≡ scenario h ts es
+    (h : Header) (ts : List Task) (es : List Event) → HeaderFits h → AllByRecursion TaskFits ts → AllByRecursion EventFits es → file ≡ encode h ts es → s ≡ scenario h ts es

@@ -1,8 +1,8 @@
 -- What a file's records make together: a header, then tasks, then events, up to the end or the first fault.
 use Rattle.std.specs.Prelude.{ℕ, zero, suc, ◌+◌, Bool, true, false, cond, not, List, [], ◌∷◌, ◌++◌, length, is_some, Some, None, Ok, Err, vec_items, Option, Result, ◌==◌}
-use Rattle.model.specs.declared.Task.{Task as Task-of}
-use Rattle.model.specs.declared.Event.{Event as Event-of}
-use Rattle.scenario.specs.declared.Header.{Header as Header-of}
+use Rattle.model.specs.declared.Task.{Task as TaskOf}
+use Rattle.model.specs.declared.Event.{Event as EventOf}
+use Rattle.scenario.specs.declared.Header.{Header as HeaderOf}
 use Rattle.scenario.specs.declared.Record.{Record}
 use Rattle.scenario.specs.declared.Record.TheVariants.{Header, Task, Event}
 use Rattle.scenario.specs.declared.Fault.{Fault}
@@ -13,9 +13,9 @@ use Rattle.scenario.specs.Format.{next_at}
 
 -- a script with its tasks and events as lists
 pub record Loaded : Type 0 where
-  pub header : Option Header-of
-  pub tasks : List Task-of
-  pub events : List Event-of
+  pub header : Option HeaderOf
+  pub tasks : List TaskOf
+  pub events : List EventOf
   pub start : ℕ
   pub stop : Option Stop
 
