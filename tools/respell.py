@@ -15,8 +15,11 @@ TABLE = dict(line.split() for line in open(os.path.join(os.path.dirname(__file__
 STOPS = r"[^\s(){}\[\];,.«»\"`\\:]+"
 
 
+RESERVED = {"record", "data", "open", "as", "in"}
+
+
 def plain(name):
-    return re.fullmatch(r"[A-Za-z_][A-Za-z0-9_]*", name) is not None
+    return re.fullmatch(r"[A-Za-z_][A-Za-z0-9_]*", name) is not None and name not in RESERVED
 
 
 def renamed(text):
@@ -38,7 +41,7 @@ def ticked(text):
 def quoted(text):
     def one(m):
         new = TABLE.get(m.group(1), m.group(1))
-        return new if new != m.group(1) and plain(new) else "«" + new + "»"
+        return new if plain(new) else "«" + new + "»"
 
     return re.sub(r"«([^»]+)»", one, text)
 

@@ -2,7 +2,7 @@
 #![tactic(auto)]
 
 ghost use Rattle.std.specs.Prelude.{◌≡◌, ◌≤◌, length, replicate};
-ghost use Rattle.arbiter.specs.Memory.{contents, SameLoans, tables, «count_at» as CountAt, cluster_at as ClusterAt, parameter_at as ParameterAt, task_count as TaskCountOf, «too_small» as TooSmall, running, in_set as InSet, becoming, with_entry as WithEntry, without_entry as WithoutEntry, turned_away as TurnedAway, stored, replied, afterwards, asked_set as AskedSetOf};
+ghost use Rattle.arbiter.specs.Memory.{contents, SameLoans, tables, count_at as CountAt, cluster_at as ClusterAt, parameter_at as ParameterAt, task_count as TaskCountOf, too_small as TooSmall, running, in_set as InSet, becoming, with_entry as WithEntry, without_entry as WithoutEntry, turned_away as TurnedAway, stored, replied, afterwards, asked_set as AskedSetOf};
 ghost use Rattle.arbiter.specs.SetUp.{absent, unfit, idle_job as IdleJob, unaccepted, SetUp};
 ghost use Rattle.arbiter.specs.Outcomes.{or_none as OrNone, sets, outcome as OutcomeOf, Ran};
 ghost use Rattle.arbiter.specs.Meaning.{Acted, AskedSet, AskedCondition};

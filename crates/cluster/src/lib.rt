@@ -4,7 +4,7 @@
 ghost use Rattle.std.specs.Prelude.{◌≡◌, take, set, slice_set};
 ghost use Rattle.std.specs.List.{slice_get};
 ghost use Rattle.cluster.specs.Listing.{urgent, part};
-ghost use Rattle.cluster.specs.Picks.{bit as BitOf, condition_at as ConditionAt, «pick_at» as PickAt, picked_set as PickedSet};
+ghost use Rattle.cluster.specs.Picks.{bit as BitOf, condition_at as ConditionAt, pick_at as PickAt, picked_set as PickedSet};
 ghost use Rattle.cluster.specs.Claims.{IsScheduled, Entering, Departing};
 ghost use Rattle.model.specs.Words.{holds as holdsIn};
 ghost use Rattle.std.proofs.Common.{rules};

@@ -9,7 +9,7 @@ use Rattle.lock.specs.declared.Reply.TheVariants.{Granted, Waits, Declined}
 use Rattle.lock.specs.Words.{tally, has, index, distinct, removed, someone, first, less, nobody}
 use Rattle.lock.specs.Model.{is_granted, queued, member, started}
 use Rattle.lock.specs.Fifo.{Fifo, FifoSound, fifo_holds, fifo_admits, fifo_reply, fifo_empty, mutex, replicas}
-use Rattle.lock.specs.PhaseFair.{Rw, RwSound, rw_admits, rw, rw_empty, Phase, idle, reading, writing, holds_in, wrote, mode_in, asked_in, reply_in, ended_in, next_writer, rest_in, ends_in, grants_in}
+use Rattle.lock.specs.PhaseFair.{Rw, RwSound, rw_admits, rw, rw_empty, Phase, idle, reading, writing, holds_in, wrote, mode_in, asked_in, reply_in, ended_in, next_writer, RestIn, ends_in, grants_in}
 use Rattle.lock.specs.Kinds.{Any, one, two, or_else, any}
 use Rattle.lock.specs.Rules.{FifoRules, PlacesRules, RwRules, SetUpRule, Rules, writer_holds, empty_of}
 use Rattle.lock.specs.Count.{tally-same, tally-into, tally-all}
@@ -171,13 +171,13 @@ row-moves (writing x) ws rs t lt apart h = go (someone 64 rs)
     go true = sym (cond-false _ _ _ (someone-none _ apart))
     go false = next_row ws rs lt
 
-read-in : (ph : Phase) (ws : List ℕ) (rs : ℕ → Bool) (p : ℕ → Bool) → rest_in ph ws rs → ((u : ℕ) → p u ≡ (wrote ph u || has ws u)) → ((u : ℕ) → p u ≡ true → u < 64) → is_granted (reply_in ph ws true) ≡ not (someone 64 p)
+read-in : (ph : Phase) (ws : List ℕ) (rs : ℕ → Bool) (p : ℕ → Bool) → RestIn ph ws rs → ((u : ℕ) → p u ≡ (wrote ph u || has ws u)) → ((u : ℕ) → p u ≡ true → u < 64) → is_granted (reply_in ph ws true) ≡ not (someone 64 p)
 read-in idle ws rs p r is lt = sym (ap not (someone-none p (λ u. is u ∙ ap (λ xs. has xs u) r.0)))
 read-in (reading s) [] rs p r is lt = sym (ap not (someone-none p is))
 read-in (reading s) (w ∷ ws) rs p r is lt = let y : p w ≡ true = is w ∙ or_left (eqb w w) _ (eq-eqb w w refl) in sym (ap not (someone-at 64 p w (lt w y) y))
 read-in (writing x) ws rs p r is lt = let y : p x ≡ true = is x ∙ or_left (eqb x x) _ (eq-eqb x x refl) in sym (ap not (someone-at 64 p x (lt x y) y))
 
-write_in : (ph : Phase) (ws : List ℕ) (rs : ℕ → Bool) → rest_in ph ws rs → ((u : ℕ) → holds_in ph u ≡ true → u < 64) → is_granted (reply_in ph ws false) ≡ not (someone 64 (λ u. holds_in ph u))
+write_in : (ph : Phase) (ws : List ℕ) (rs : ℕ → Bool) → RestIn ph ws rs → ((u : ℕ) → holds_in ph u ≡ true → u < 64) → is_granted (reply_in ph ws false) ≡ not (someone 64 (λ u. holds_in ph u))
 write_in idle ws rs r lt = sym (ap not (someone-none (λ u. false) (λ u. refl)))
 write_in (reading s) [] rs r lt = sym (ap not (someone-at 64 s r.0.0 (lt r.0.0 r.0.1) r.0.1))
 write_in (reading s) (w ∷ ws) rs r lt = sym (ap not (someone-at 64 s r.0.0 (lt r.0.0 r.0.1) r.0.1))

@@ -28,16 +28,16 @@ abbrev pub fine : Bool → Bool → Bool → ℕ → Bool
 fine h w r u = not (h && w) && (not (h && r) && (not (w && r) && (not (h || (w || r)) || nat_lt u 64)))
 
 -- nobody waits at rest, some reader reads, and readers wait for writers alone
-abbrev pub rest_in : Phase → List ℕ → (ℕ → Bool) → Type 0
-rest_in idle ws rs = (ws ≡ []) × ((u : ℕ) → rs u ≡ false)
-rest_in (reading s) ws rs = ((u : ℕ) × (s u ≡ true)) × (ws ≡ [] → (u : ℕ) → rs u ≡ false)
-rest_in (writing w) ws rs = Unit {0}
+abbrev pub RestIn : Phase → List ℕ → (ℕ → Bool) → Type 0
+RestIn idle ws rs = (ws ≡ []) × ((u : ℕ) → rs u ≡ false)
+RestIn (reading s) ws rs = ((u : ℕ) × (s u ≡ true)) × (ws ≡ [] → (u : ℕ) → rs u ≡ false)
+RestIn (writing w) ws rs = Unit {0}
 
 -- what is so of every lock that set-up and its steps make
 pub record RwSound (l : Rw) : Type 0 where
   pub once : distinct l.writers ≡ true
   pub each : (u : ℕ) → fine (holds_in l.phase u) (has l.writers u) (l.readers u) u ≡ true
-  pub rest : rest_in l.phase l.writers l.readers
+  pub rest : RestIn l.phase l.writers l.readers
 
 -- the writer that holds
 abbrev pub wrote : Phase → ℕ → Bool

@@ -8,7 +8,7 @@ use Rattle.lock.specs.declared.Reply.TheVariants.{Granted, Waits, Declined}
 use Rattle.lock.specs.Words.{first, tally, has, distinct, index, someone, upto, nobody, less}
 use Rattle.lock.specs.Model.{queued, member, holding, is_granted, is_waits}
 use Rattle.lock.specs.Laws.{Laws}
-use Rattle.lock.specs.PhaseFair.{Phase, idle, reading, writing, Rw, holds_in, wrote, mode_in, rest_in, RwSound, rw_admits, asked_in, reply_in, next_writer, ended_in, ends_in, grants_in, writer_turns, reader_turns, rw, rw_empty}
+use Rattle.lock.specs.PhaseFair.{Phase, idle, reading, writing, Rw, holds_in, wrote, mode_in, RestIn, RwSound, rw_admits, asked_in, reply_in, next_writer, ended_in, ends_in, grants_in, writer_turns, reader_turns, rw, rw_empty}
 use Rattle.lock.specs.Count.{tally-same, tally-none, tally-one}
 use Rattle.lock.specs.Steps.{mk}
 use Rattle.lock.specs.Starts.{starts, exact}
@@ -29,7 +29,7 @@ small l u g h = let e = g.each u in grind (arith, nat_tests)
 pub mem : (l : Rw) (u : ℕ) → RwSound l → member rw l u ≡ (holds_in l.phase u || (has l.writers u || l.readers u))
 mem l u g = ap (λ b. holds_in l.phase u || b) (q l u g)
 
-served : (ph : Phase) (ws : List ℕ) (rs : ℕ → Bool) (t : ℕ) → rest_in ph ws rs → (has ws t || rs t) ≡ true → (u : ℕ) × (holds_in ph u ≡ true)
+served : (ph : Phase) (ws : List ℕ) (rs : ℕ → Bool) (t : ℕ) → RestIn ph ws rs → (has ws t || rs t) ≡ true → (u : ℕ) × (holds_in ph u ≡ true)
 served idle ws rs t r h = absurd (both_ways (has ws t || rs t) (let a : has ws t ≡ false = ap (λ x. has x t) r.0 in let b = r.1 t in grind (arith, nat_tests)) h)
 served (reading s) ws rs t r h = r.0
 served (writing w) ws rs t r h = (w, eq-eqb w w refl)
@@ -105,7 +105,7 @@ module _ (rs : ℕ → Bool) (t : ℕ) where
   asked-queued (writing x) ws false u = let a = has-snoc ws t u in grind (arith, nat_tests)
 
   -- nobody waits where a request is granted
-  asked-turn : (ph : Phase) (ws : List ℕ) (r : Bool) (u : ℕ) → rest_in ph ws rs → (has ws u || rs u) ≡ true → reply_in ph ws r ≢ Granted
+  asked-turn : (ph : Phase) (ws : List ℕ) (r : Bool) (u : ℕ) → RestIn ph ws rs → (has ws u || rs u) ≡ true → reply_in ph ws r ≢ Granted
   asked-turn idle ws r u k h e = both_ways (has ws u || rs u) (let a : has ws u ≡ false = ap (λ x. has x u) k.0 in let b = k.1 u in grind (arith, nat_tests)) h
   asked-turn (reading s) [] true u k h e = both_ways (rs u) (k.1 refl u) h
   asked-turn (reading s) (w ∷ ws) true u k h e = let z : ◌≡◌ {A = ℕ} 0 1 = cc in omega arith
@@ -123,7 +123,7 @@ module _ (rs : ℕ → Bool) (t : ℕ) where
   le_of : {a b : ℕ} → a ≡ b → a ≤ b
   le_of e = omega arith
 
-  asked-togo : (ph : Phase) (ws : List ℕ) (r : Bool) (u : ℕ) → rest_in ph ws rs → free ph ws rs t ≡ true → (has ws u || rs u) ≡ true → togo (asked_in ph ws rs t r).phase (asked_in ph ws rs t r).writers u ≤ togo ph ws u
+  asked-togo : (ph : Phase) (ws : List ℕ) (r : Bool) (u : ℕ) → RestIn ph ws rs → free ph ws rs t ≡ true → (has ws u || rs u) ≡ true → togo (asked_in ph ws rs t r).phase (asked_in ph ws rs t r).writers u ≤ togo ph ws u
   asked-togo idle ws r u k f h = absurd (asked-turn idle ws true u k h refl)
   asked-togo (reading s) [] true u k f h = absurd (asked-turn (reading s) [] true u k h refl)
   asked-togo (reading s) (w ∷ ws) true u k f h = le_of refl

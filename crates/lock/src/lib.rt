@@ -5,7 +5,7 @@
 ghost use Rattle.std.specs.Prelude.{◌≡◌, ◌≤◌, not, ◌&&◌, if◌then◌else◌};
 ghost use Rattle.lock.specs.Words.{tasks as TasksOf};
 ghost use Rattle.lock.specs.Numbers.{refusal_number as RefusalNumber};
-ghost use Rattle.lock.specs.Model.{LockModel, outcome as OutcomeIn, crowd, «made_of» as MadeOf, written, «count_of» as CountOf};
+ghost use Rattle.lock.specs.Model.{LockModel, outcome as OutcomeIn, crowd, made_of as MadeOf, written, count_of as CountOf};
 ghost use Rattle.lock.specs.Laws.{Laws};
 ghost use Rattle.lock.specs.Waits.{after, ends_turn as EndsTurn, grants_to as GrantsTo, after_all as AfterAll, turns_to_grant as TurnsToGrant, WaitsBounded, Live};
 ghost use Rattle.lock.specs.Views.{bits, outcome_of as OutcomeOf};

@@ -2,7 +2,7 @@
 // this queue, with one place and with several.
 ghost use Rattle.std.specs.Prelude.{◌≡◌, suc, ◌<◌, ◌≤◌, true, [], ◌∷◌, ◌++◌, length, take, drop, ◌==◌, slice_index};
 ghost use Rattle.lock.specs.Words.{has, index, tasks as TasksOf};
-ghost use Rattle.lock.specs.Model.{«count_of» as CountOf, written, outcome as OutcomeIn};
+ghost use Rattle.lock.specs.Model.{count_of as CountOf, written, outcome as OutcomeIn};
 ghost use Rattle.lock.specs.Fifo.{Fifo, mutex as MutexModel, replicas as ReplicasModel};
 ghost use Rattle.lock.specs.Views.{bits, row as RowOf, placed, outcome_of as OutcomeOf, mutex_view as MutexView, replicas_view as ReplicasView};
 ghost use Rattle.lock.specs.FifoLaws.{mutex-lawful, replicas-lawful};

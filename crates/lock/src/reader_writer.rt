@@ -3,7 +3,7 @@
 ghost use Rattle.std.specs.Prelude.{◌≡◌, ◌<◌, true, length};
 ghost use Rattle.lock.specs.Words.{first};
 ghost use Rattle.lock.specs.Model.{took};
-ghost use Rattle.lock.specs.PhaseFair.{Rw, rw, holds_in as HoldsIn, rw_admits as Admits, «asked_in» as AskedIn, reply_in as ReplyIn, ended_in as EndedIn, ends_in as EndsIn, grants_in as GrantsIn, next_writer as NextWriter};
+ghost use Rattle.lock.specs.PhaseFair.{Rw, rw, holds_in as HoldsIn, rw_admits as Admits, asked_in as AskedIn, reply_in as ReplyIn, ended_in as EndedIn, ends_in as EndsIn, grants_in as GrantsIn, next_writer as NextWriter};
 ghost use Rattle.lock.specs.Views.{bits, row as RowOf, reads as Reads, phase_of as PhaseOf, outcome_of as OutcomeOf, rw_view as RwView};
 ghost use Rattle.lock.specs.RwLaws.{rw-lawful};
 

@@ -8,7 +8,7 @@ ghost use Rattle.arbiter.specs.Memory.{contents, said, plan_of as PlanOf};
 ghost use Rattle.arbiter.specs.Meaning.{Reached};
 ghost use Rattle.arbiter.specs.Outcomes.{outcomes};
 ghost use Rattle.model.specs.Rules.{start};
-ghost use Rattle.replay.specs.Trace.{cause_number as CauseNumber, run_from as RunFrom, run_script as RunScript, system_text as SystemText, trace_view as TraceView, stopped_after as StoppedAfter, ending, run_under as RunUnder, «run_by» as RunBy, traced, Promised};
+ghost use Rattle.replay.specs.Trace.{cause_number as CauseNumber, run_from as RunFrom, run_script as RunScript, system_text as SystemText, trace_view as TraceView, stopped_after as StoppedAfter, ending, run_under as RunUnder, run_by as RunBy, traced, Promised};
 
 use arbiter::{Arbiter, Outcome, System};
 use cluster::{Entry, Job};

@@ -4,7 +4,7 @@
 ghost use Rattle.std.specs.Prelude.{◌≡◌, IfOk};
 ghost use Rattle.scenario.specs.Format.{fault_number as FaultNumber, record_at, split_view, next_at, place_after, part_view};
 ghost use Rattle.scenario.specs.Encoding.{ReadsBack};
-ghost use Rattle.scenario.specs.Loading.{script_view, «misplaced» as Misplaced, misplaced_in, taken, «stopped» as Stopped, «ended» as Ended, loaded};
+ghost use Rattle.scenario.specs.Loading.{script_view, misplaced as Misplaced, misplaced_in, taken, stopped as Stopped, ended as Ended, loaded};
 
 use model::{Event, Task};
 use std::alloc::{AllocError, Global};
