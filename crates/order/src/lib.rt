@@ -4,10 +4,19 @@
 
 ghost use Rattle.std.specs.Prelude.{◌≡◌};
 ghost use Rattle.order.specs.Urgency.{Urgency, Lawful};
-ghost use Rattle.order.specs.Supplied.{earliest_deadline as EarliestDeadlineUrgency, level as LevelUrgency};
+ghost use Rattle.order.specs.Supplied.{earliest_deadline, level, earlier, higher};
 ghost use Rattle.std.proofs.Common.{rules};
 
-/// An order of jobs. A job stands by its mark and the number of its task.
+use std::cmp::Reverse;
+
+/// A job as an order sees it: its mark, and the number of its task.
+#[derive(Clone, Copy)]
+pub struct Entry<M> {
+    pub mark: M,
+    pub task: u8,
+}
+
+/// An order of jobs.
 pub trait Order {
     type Mark: Copy + Drop;
 
@@ -22,19 +31,19 @@ pub trait Order {
         ensures { result ≡ urgency.mark parameter instant };
 
     /// Whether the first job goes before the second.
-    fn goes_first(a: Self::Mark, task_a: u8, b: Self::Mark, task_b: u8) -> bool
-        ensures { result ≡ urgency.before a task_a b task_b };
+    fn goes_first(a: Entry<Self::Mark>, b: Entry<Self::Mark>) -> bool
+        ensures { result ≡ urgency.before a.mark a.task b.mark b.task };
 
     ghost lawful: { Lawful urgency.before };
 }
 
 /// The earliest deadline first. A task's parameter is the time from a release to its deadline.
-pub struct EarliestDeadline {}
+pub struct EarliestDeadline;
 
 impl Order for EarliestDeadline {
     type Mark = u64;
 
-    ghost urgency = { EarliestDeadlineUrgency };
+    ghost urgency = { earliest_deadline };
 
     ghost lawful = { Prim.search rules };
 
@@ -43,21 +52,23 @@ impl Order for EarliestDeadline {
     }
 
     fn mark(parameter: u32, instant: u32) -> u64 {
-        instant as u64 + parameter as u64
+        u64::from(instant) + u64::from(parameter)
     }
 
-    fn goes_first(a: u64, task_a: u8, b: u64, task_b: u8) -> bool {
-        a < b || (a == b && task_a < task_b)
+    fn goes_first(a: Entry<u64>, b: Entry<u64>) -> bool
+        ensures { result ≡ earlier a.mark a.task b.mark b.task }
+    {
+        (a.mark, a.task) < (b.mark, b.task)
     }
 }
 
 /// The highest level first. A task's parameter is its level, below 256.
-pub struct Level {}
+pub struct Level;
 
 impl Order for Level {
     type Mark = u32;
 
-    ghost urgency = { LevelUrgency };
+    ghost urgency = { level };
 
     ghost lawful = { Prim.search rules };
 
@@ -70,8 +81,10 @@ impl Order for Level {
         parameter
     }
 
-    fn goes_first(a: u32, task_a: u8, b: u32, task_b: u8) -> bool {
-        a > b || (a == b && task_a < task_b)
+    fn goes_first(a: Entry<u32>, b: Entry<u32>) -> bool
+        ensures { result ≡ higher a.mark a.task b.mark b.task }
+    {
+        (Reverse(a.mark), a.task) < (Reverse(b.mark), b.task)
     }
 }
 
@@ -81,34 +94,34 @@ mod tests {
 
     #[test]
     fn deadlines(rt: HostRuntime) {
-        assert_eq!(rt;
-            <EarliestDeadline as Order>::mark(u32::MAX, u32::MAX),
-            8_589_934_590
-        );
-        let soon = <EarliestDeadline as Order>::mark(20, 100);
-        let same = <EarliestDeadline as Order>::mark(70, 50);
+        assert_eq!(rt; EarliestDeadline::mark(u32::MAX, u32::MAX), 8_589_934_590);
+        let soon = Entry {
+            mark: EarliestDeadline::mark(20, 100),
+            task: 1,
+        };
+        let same = Entry {
+            mark: EarliestDeadline::mark(70, 50),
+            task: 2,
+        };
+        assert!(rt; EarliestDeadline::goes_first(soon, same), "the lower task");
         assert!(rt;
-            <EarliestDeadline as Order>::goes_first(soon, 1, same, 2),
-            "the lower task"
-        );
-        assert!(rt;
-            !<EarliestDeadline as Order>::goes_first(same, 2, soon, 1),
+            !EarliestDeadline::goes_first(same, soon),
             "the higher task"
         );
     }
 
     #[test]
     fn levels(rt: HostRuntime) {
-        assert!(rt; <Level as Order>::fits(255) && !<Level as Order>::fits(256));
-        let high = <Level as Order>::mark(9, 0);
-        let low = <Level as Order>::mark(4, 0);
-        assert!(rt;
-            <Level as Order>::goes_first(high, 2, low, 1),
-            "the higher level"
-        );
-        assert!(rt;
-            !<Level as Order>::goes_first(low, 1, high, 2),
-            "the lower level"
-        );
+        assert!(rt; Level::fits(255) && !Level::fits(256));
+        let high = Entry {
+            mark: Level::mark(9, 0),
+            task: 2,
+        };
+        let low = Entry {
+            mark: Level::mark(4, 0),
+            task: 1,
+        };
+        assert!(rt; Level::goes_first(high, low), "the higher level");
+        assert!(rt; !Level::goes_first(low, high), "the lower level");
     }
 }

@@ -1,5 +1,5 @@
 -- How many elements pass a test: after an insertion and a removal, and of those before an element its rank.
-use Rattle.std.proofs.Common.{◌≡◌, ℕ, zero, suc, Bool, true, false, cond, not, List, [], ◌∷◌, Some, sym, refl, ap, ◌∙◌}
+use Rattle.std.proofs.Common.{◌≡◌, ℕ, zero, suc, ◌+◌, Bool, true, false, cond, not, List, [], ◌∷◌, Some, sym, refl, ap, ◌∙◌, arith}
 use Rattle.std.specs.List.{slice_get, remove}
 use Rattle.ordered.specs.Ranks.{Ranks, Leads, Sorted, Fresh, place, ranked, passing}
 use Rattle.ordered.proofs.Sortedness.{leads_along}
@@ -60,7 +60,7 @@ module _ {E : Type 0} {key : E → ℕ} {before : E → E → Bool} (laws : Rank
   place-rank e [] s f = refl
   place-rank e (x ∷ xs) s f =
       let p : E → Bool = λ y. before y e in
-      elim (before x e) as (λ b. before x e ≡ b → cond (not b) 0 (suc (place before e xs)) ≡ cond b (suc (passing p xs)) (passing p xs)) [
-        | true ↦ λ _. ap suc (place-rank e xs s.1 f.1)
+      elim (before x e) as (λ b. before x e ≡ b → cond b (1 + place before e xs) 0 ≡ cond b (suc (passing p xs)) (passing p xs)) [
+        | true ↦ λ _. let h = place-rank e xs s.1 f.1 in omega (arith, h)
         | false ↦ λ h. sym (passing-after before laws.irreflexive laws.transitive e xs (leads_along laws e x xs (laws.different x e f.0 ∙ ap not h) s.0))
       ] refl

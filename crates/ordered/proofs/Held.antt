@@ -1,7 +1,9 @@
 -- Which places are held, and what stands there: found by a key, and taken out.
-use Rattle.std.proofs.Common.{◌≡◌, ℕ, zero, suc, ◌<◌, ◌≤◌, Bool, true, false, cond, eqb, ltb, leb, List, [], ◌∷◌, length, take, Some, None, Option, sym, refl, ap, ◌∙◌, ⊎_elim, arith, length-take}
+use Rattle.std.proofs.Common.{◌≡◌, ℕ, zero, suc, ◌+◌, ◌<◌, ◌≤◌, Bool, true, false, cond, not, eqb, ltb, leb, List, [], ◌∷◌, length, get_or, take, Some, None, Option, sym, refl, ap, ◌∙◌, ⊎_elim, arith, length-take}
+use Rattle.std.specs.Option.{is_some, option_map, unwrap_or}
 use Rattle.std.specs.List.{slice_get, remove}
-use Rattle.std.proofs.lemmas.Bool.{ltb-true, ltb-false, leb-true, lt-ltb, le-ltb, le-leb, eqb-false, and_from, and_parts, cases_Bool}
+use Rattle.std.proofs.lemmas.Option.{slice_get-get_or}
+use Rattle.std.proofs.lemmas.Bool.{ltb-true, ltb-false, leb-true, lt-ltb, le-leb, eqb-false, and_from, and_parts, cases_Bool}
 use Rattle.ordered.specs.Ranks.{found, Fresh, passing}
 use Rattle.ordered.specs.Places.{position, held, taken}
 use Rattle.ordered.proofs.Counts.{passing-removed}
@@ -39,15 +41,8 @@ module _ {E : Type 0} (key : E → ℕ) (k : ℕ) where
   found-fresh : (xs : List E) → length xs ≤ found key k xs → Fresh key k xs
   found-fresh [] le = tt
   found-fresh (x ∷ xs) le =
-      elim (eqb (key x) k) as (λ b. eqb (key x) k ≡ b → suc (length xs) ≤ cond b 0 (suc (found key k xs)) → Fresh key k (x ∷ xs))
+      elim (eqb (key x) k) as (λ b. eqb (key x) k ≡ b → suc (length xs) ≤ cond (not b) (1 + found key k xs) 0 → Fresh key k (x ∷ xs))
       [ true ↦ λ _ h. absurd (omega arith) | false ↦ λ e h. (eqb-false (key x) k e, found-fresh xs (omega arith)) ] refl le
-
-  pub position_here : (xs : List E) (i : ℕ) → i ≡ found key k xs → i < length xs → Some i ≡ position key k xs
-  position_here xs i is lt =
-      let h : found key k xs < length xs = omega arith in ap Some is ∙ simp (lt-ltb (found key k xs) (length xs) h)
-
-  pub position-none : (xs : List E) → length xs ≤ found key k xs → None ≡ position key k xs
-  position-none xs le = simp (le-ltb (found key k xs) (length xs) le)
 
   pub position_some : (xs : List E) (i : ℕ) → position key k xs ≡ Some i → i ≡ found key k xs
   position_some xs i =
@@ -66,3 +61,8 @@ module _ {E : Type 0} (key : E → ℕ) (k : ℕ) where
   pub absent-held : (xs : List E) (used : ℕ) → position key k (take used xs) ≡ None → held used (found key k (take used xs)) xs ≡ false
   absent-held xs used e =
       held-no xs used (found key k (take used xs)) (λ a b. let past = past_all (take used xs) e in omega (arith, length-take used xs, past))
+
+-- the element that a read of a slice answers
+pub read-is : {A B : Type 0} (f : B → A) (r : Option B) (xs : List A) (at : ℕ) (x : A) → is_some r ≡ ltb at (length xs) → option_map f r ≡ Some x → ((d : A) → unwrap_or (option_map f r) d ≡ get_or xs at d) → slice_get xs at ≡ Some x
+read-is f None xs at x h e k = absurd cc
+read-is f (Some b) xs at x h e k = slice_get-get_or xs at x (ltb-true at (length xs) (sym h)) ∙ ap Some (sym (k x) ∙ ap (λ o. unwrap_or o x) e)

@@ -1,4 +1,3 @@
-pub mod Firsts
 pub mod Shifts
 pub mod Sortedness
 pub mod Counts

@@ -1,11 +1,15 @@
 -- What is taken out of the first places of a slice, and what that leaves.
-use Rattle.std.specs.Prelude.{ℕ, ◌-◌, Bool, cond, ◌&&◌, List, ◌++◌, length, take, drop, Some, None, Option, nat_le, nat_lt}
+use Rattle.std.specs.Prelude.{ℕ, ◌-◌, Bool, cond, ◌&&◌, List, ◌++◌, length, take, drop, None, Option, nat_eq, nat_le, nat_lt}
+use Rattle.std.specs.List as std
 use Rattle.std.specs.List.{slice_get, remove}
-use Rattle.ordered.specs.Ranks.{found}
 
 -- the place of the first element with key k, if there is one
 abbrev pub position : {E : Type 0} → (E → ℕ) → ℕ → List E → Option ℕ
-position key k xs = cond (nat_lt (found key k xs) (length xs)) (Some (found key k xs)) None
+position key k xs = std.position (λ x. nat_eq (key x) k) xs
+
+-- whether there are more than `used` places
+abbrev pub has_room : {E : Type 0} → ℕ → List E → Bool
+has_room used xs = nat_lt used (length xs)
 
 -- whether `at` is one of the first `used` places, all of which exist
 abbrev pub held : {E : Type 0} → ℕ → ℕ → List E → Bool

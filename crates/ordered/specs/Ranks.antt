@@ -1,5 +1,6 @@
 -- An order of elements with keys, and a list kept by it.
 use Rattle.std.specs.Prelude.{◌≡◌, ℕ, suc, Bool, true, false, cond, not, List, [], ◌∷◌, ◌≢◌, nat_eq}
+use Rattle.std.specs.List.{prefix_len, position_or_len}
 
 -- no element goes before itself, going before carries on, and of two elements with different keys exactly one goes before the other
 pub record Ranks {E : Type 0} (key : E → ℕ) (before : E → E → Bool) : Type 0 where
@@ -7,18 +8,13 @@ pub record Ranks {E : Type 0} (key : E → ℕ) (before : E → E → Bool) : Ty
   pub transitive : (a b c : E) → before a b ≡ true → before b c ≡ true → before a c ≡ true
   pub different : (a b : E) → (key a ≢ key b) → before b a ≡ not (before a b)
 
--- the place of the first element that passes the test, or the length
-abbrev pub first : {E : Type 0} → (E → Bool) → List E → ℕ
-first p [] = 0
-first p (x ∷ xs) = cond (p x) 0 (suc (first p xs))
-
 -- the place of e: after the elements at the front that go before it
 abbrev pub place : {E : Type 0} → (E → E → Bool) → E → List E → ℕ
-place before e xs = first (λ x. not (before x e)) xs
+place before e xs = prefix_len (λ x. before x e) xs
 
 -- the place of the first element with key k, or the length
 abbrev pub found : {E : Type 0} → (E → ℕ) → ℕ → List E → ℕ
-found key k xs = first (λ x. nat_eq (key x) k) xs
+found key k xs = position_or_len (λ x. nat_eq (key x) k) xs
 
 -- xs with e after the elements at the front that go before it
 abbrev pub ranked : {E : Type 0} → (E → E → Bool) → E → List E → List E

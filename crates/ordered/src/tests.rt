@@ -11,7 +11,7 @@ struct Alarm {
     task: u8,
 }
 
-struct Calendar {}
+struct Calendar;
 
 impl Ranking for Calendar {
     type Item = Alarm;
@@ -27,7 +27,7 @@ impl Ranking for Calendar {
     }
 
     fn goes_before(x: Alarm, y: Alarm) -> bool {
-        x.instant < y.instant || (x.instant == y.instant && x.task < y.task)
+        (x.instant, x.task) < (y.instant, y.task)
     }
 }
 
@@ -38,29 +38,30 @@ fn ring(instant: u32, task: u8) -> Alarm {
 #[test]
 fn kept_in_order(rt: HostRuntime) {
     let mut places = [ring(0, 0); 3];
-    assert_eq!(rt; insert::<Calendar>(&mut places, 0, ring(50, 4)), Some(0));
-    assert_eq!(rt; insert::<Calendar>(&mut places, 1, ring(90, 1)), Some(1));
-    assert_eq!(rt; insert::<Calendar>(&mut places, 2, ring(50, 2)), Some(0));
-    assert_eq!(rt;
-        insert::<Calendar>(&mut places, 3, ring(10, 3)),
-        None,
-        "full"
-    );
-    assert_eq!(rt; find::<Calendar>(&places, 3, 1), Some(2));
-    assert_eq!(rt; find::<Calendar>(&places, 3, 3), None);
+    let mut list = OrderedList::<Calendar> {
+        places: &mut places,
+        used: 0,
+    };
+    assert_eq!(rt; list.insert(ring(50, 4)), Some(0));
+    assert_eq!(rt; list.insert(ring(90, 1)), Some(1));
+    assert_eq!(rt; list.insert(ring(50, 2)), Some(0));
+    assert_eq!(rt; list.insert(ring(10, 3)), None, "full");
+    assert_eq!(rt; list.entries().find(1), Some(2));
+    assert_eq!(rt; list.entries().find(3), None);
 }
 
 #[test]
 fn taken_out(rt: HostRuntime) -> Result<(), Fail> {
     let mut places = [ring(10, 7), ring(20, 8), ring(30, 9)];
-    assert!(rt; remove::<Calendar>(&mut places, 3, 5).is_none(), "absent");
-    let gone = remove::<Calendar>(&mut places, 3, 8).ok_or("held")?;
+    let mut list = OrderedList::<Calendar> {
+        places: &mut places,
+        used: 3,
+    };
+    assert!(rt; list.remove(5).is_none(), "absent");
+    let gone = list.remove(8).ok_or("held")?;
     assert_eq!(rt; gone.instant, 20);
-    let next = get::<Calendar>(&places, 2, 1).ok_or("moved up")?;
+    let next = list.entries().get(1).ok_or("moved up")?;
     assert_eq!(rt; next.task, 9);
-    assert!(rt;
-        remove_at::<Calendar>(&mut places, 2, 2).is_none(),
-        "beyond the list"
-    );
+    assert!(rt; list.remove_at(2).is_none(), "beyond the list");
     Ok(())
 }
