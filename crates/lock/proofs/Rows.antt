@@ -1,21 +1,17 @@
--- A row in the front of an array, and what moves it up by one
-use Rattle.std.proofs.Common.{◌≡◌, ℕ, zero, suc, ◌+◌, ◌-◌, ◌<◌, ◌≤◌, min, Bool, true, false, cond, eqb, ltb, List, [], ◌∷◌, ◌++◌, length, get_or, take, drop, set, sym, refl, ap, ◌∙◌, ⊎_elim, arith, length-drop}
-use lib.Seq.{paste}
-use Rattle.std.proofs.lemmas.List.{take_all, take_more_set, take-take, get_or-drop}
-use Rattle.std.proofs.lemmas.List.Edits.{paste_none, paste_more, take-paste, drop-paste}
-use Rattle.std.proofs.lemmas.Slice.{between_is}
-use Rattle.std.proofs.lemmas.Bool.{cases_lt, false≢true}
+-- Rows of tasks: places in them, and what moves them up by one
+use Rattle.std.proofs.Common.{◌≡◌, ℕ, zero, suc, ◌+◌, ◌-◌, ◌<◌, ◌≤◌, Bool, true, false, cond, ◌&&◌, ◌||◌, eqb, ltb, ◌==◌, List, [], ◌∷◌, ◌++◌, length, take, drop, Some, None, bit_or, fold, position, sym, refl, ap, ◌∙◌, arith, length-drop}
+use Rattle.std.specs.List.{copy_within, position_or_len}
+use Rattle.std.proofs.Math.Path.{fun_ext}
+use Rattle.std.proofs.lemmas.List.{take-take, drop-take}
+use Rattle.std.proofs.lemmas.List.Edits.{take-paste}
+use Rattle.std.proofs.lemmas.List.Recursion.{is_position_or_len}
+use Rattle.std.proofs.lemmas.Bool.{false≢true}
 use Rattle.std.proofs.lemmas.Bool.Decides.{nat_tests}
+use Rattle.task_set.specs.declared.TaskSet.{TaskSet}
+use Rattle.task_set.specs.Sets.{bits, bit, tasks}
+use Rattle.task_set.proofs.Bits.{zero-bits, with-bits}
 use Rattle.lock.specs.Words.{has, index, removed}
-
-pub take-upto : (q : List ℕ) (k j : ℕ) → j ≡ min k (length q) → take j q ≡ take k q
-take-upto q k j is = ⊎_elim
-    (λ (h : k < length q). let same : j ≡ k = omega (arith, is) in ap (λ i. take i q) same)
-    (λ (h : length q ≤ k). take_all j q (omega (arith, is)) ∙ sym (take_all k q h))
-    (cases_lt k (length q))
-
-pub pushed : (items : List ℕ) (len n t : ℕ) → n ≡ min len (length items) → n < length items → take (n + 1) (set items n t) ≡ take len items ++ (t ∷ [])
-pushed items len n t is h = take_more_set items n t h ∙ ap (λ x. x ++ (t ∷ [])) (take-upto items len n is)
+use Rattle.lock.specs.Lists.{has-take}
 
 pub index-has : (l : List ℕ) (t : ℕ) → ltb (index l t) (length l) ≡ has l t
 index-has [] t = grind (arith, nat_tests)
@@ -35,38 +31,54 @@ place-front zero xs t h = absurd (false≢true h)
 place-front (suc p) [] t h = refl
 place-front (suc p) (x ∷ xs) t h = let r = place-front p xs t in grind (arith, nat_tests)
 
--- the entries behind `at`, moved up as far as i
-module _ (xs : List ℕ) (at : ℕ) where
-  abbrev pub moved : ℕ → List ℕ
-  moved i = paste xs at (drop (at + 1) xs) (i - (at + 1))
+-- those behind the place moved up
+pub moved_up : (xs : List ℕ) (at n : ℕ) → at < n → n ≤ length xs → take (n - 1) (copy_within xs (at + 1) n at) ≡ take at (take n xs) ++ drop (suc at) (take n xs)
+moved_up xs at n lt le =
+    let m = n - (at + 1) in let behind = drop (at + 1) xs in
+    let long : length behind ≡ length xs - (at + 1) = length-drop (at + 1) xs in
+    let end : n - 1 ≡ at + m = omega arith in
+    let all : at + 1 + m ≡ n = omega arith in
+    let one : at + 1 ≡ suc at = omega arith in
+    ap (λ k. take k (copy_within xs (at + 1) n at)) end
+    ∙ take-paste xs at behind m (omega arith) (omega (arith, long))
+    ∙ ap (λ ys. ys ++ take m behind) (sym (take-take at n xs (omega arith)))
+    ∙ ap (λ ys. take at (take n xs) ++ ys) (sym (drop-take (at + 1) m xs) ∙ ap (λ k. drop (at + 1) (take k xs)) all ∙ ap (λ k. drop k (take n xs)) one)
 
-  pub moved_none : xs ≡ moved (at + 1)
-  moved_none = let none : 0 ≡ at + 1 - (at + 1) = omega arith in paste_none xs at (drop (at + 1) xs) ∙ ap (paste xs at (drop (at + 1) xs)) none
+-- the place among the first p, by the whole row
+place-first : (xs : List ℕ) (p t : ℕ) → position (λ x. x == t) (take p xs) ≡ cond (has xs t && ltb (index xs t) p) (Some (index xs t)) None
+place-first xs p t =
+    let ys = take p xs in
+    let at : index ys t ≡ position_or_len (λ x. x == t) ys = is_position_or_len (λ zs. index zs t) (λ x. x == t) refl (λ x zs. ap (λ k. cond (x == t) 0 k) (omega arith)) ys in
+    ap (λ k. cond (ltb k (length ys)) (Some k) None) (sym at)
+    ∙ ap (λ b. cond b (Some (index ys t)) None) (index-has ys t)
+    ∙ go (has ys t) refl
+    ∙ ap (λ b. cond b (Some (index xs t)) None) (has-take p xs t)
+  where
+    go : (b : Bool) → has (take p xs) t ≡ b → cond b (Some (index (take p xs) t)) None ≡ cond b (Some (index xs t)) None
+    go true e = ap Some (place-front p xs t e)
+    go false e = refl
 
-  moved-read : (m : ℕ) → at + m + 1 < length xs → (let ys = paste xs at (drop (at + 1) xs) m in get_or ys (at + m + 1) 0 ≡ get_or (drop (at + 1) xs) m 0)
-  moved-read m lt =
-      let ys = paste xs at (drop (at + 1) xs) m in
-      let same : drop (at + m) ys ≡ drop (at + m) xs = drop-paste xs at (drop (at + 1) xs) m (omega arith) (simp length-drop (omega arith)) in
-      sym (get_or-drop (at + m) ys 1 0) ∙ ap (λ zs. get_or zs 1 0) same ∙ get_or-drop (at + m) xs 1 0
-      ∙ ap (λ n. get_or xs n 0) (omega arith) ∙ sym (get_or-drop (at + 1) xs m 0)
+pub absent : (xs ys : List ℕ) (p t : ℕ) → ys ≡ take p xs → position (λ x. x == t) ys ≡ None → (has xs t && ltb (index xs t) p) ≡ false
+absent xs ys p t is e = go (has xs t && ltb (index xs t) p) (sym (place-first xs p t) ∙ ap (position (λ x. x == t)) (sym is) ∙ e)
+  where
+    go : (b : Bool) → cond b (Some (index xs t)) None ≡ None → b ≡ false
+    go true h = let z : ◌≡◌ {A = ℕ} 0 1 = cc in absurd (omega arith)
+    go false h = refl
 
-  pub moved_more : (i : ℕ) → at + 1 ≤ i → i < length xs → set (moved i) (i - 1) (get_or (moved i) i 0) ≡ moved (i + 1)
-  moved_more i le lt =
-      let m = i - (at + 1) in
-      let here : i - 1 ≡ at + m = omega arith in
-      let there : i ≡ at + m + 1 = omega arith in
-      let next : m + 1 ≡ i + 1 - (at + 1) = omega arith in
-      ap (λ n. set (moved i) n (get_or (moved i) i 0)) here
-      ∙ ap (set (moved i) (at + m)) (ap (λ n. get_or (moved i) n 0) there ∙ moved-read m (omega arith))
-      ∙ paste_more xs at (drop (at + 1) xs) m 0 (omega arith) (simp length-drop (omega arith))
-      ∙ ap (paste xs at (drop (at + 1) xs)) next
+pub present : (xs ys : List ℕ) (p t at : ℕ) → ys ≡ take p xs → position (λ x. x == t) ys ≡ Some at → ((has xs t && ltb (index xs t) p) ≡ true) × (at ≡ index xs t)
+present xs ys p t at is e = go (has xs t && ltb (index xs t) p) (sym (place-first xs p t) ∙ ap (position (λ x. x == t)) (sym is) ∙ e)
+  where
+    go : (b : Bool) → cond b (Some (index xs t)) None ≡ Some at → (b ≡ true) × (at ≡ index xs t)
+    go true h = (refl, cc)
+    go false h = let z : ◌≡◌ {A = ℕ} 0 1 = cc in absurd (omega arith)
 
-  pub moved_all : (n : ℕ) → at < n → n ≤ length xs → take (n - 1) (moved n) ≡ take at (take n xs) ++ drop (suc at) (take n xs)
-  moved_all n lt le =
-      let m = n - (at + 1) in
-      let end : n - 1 ≡ at + m = omega arith in
-      let one : at + 1 ≡ suc at = omega arith in
-      ap (λ k. take k (moved n)) end
-      ∙ take-paste xs at (drop (at + 1) xs) m (omega arith) (simp length-drop (omega arith))
-      ∙ ap (λ zs. zs ++ take m (drop (at + 1) xs)) (sym (take-take at n xs (omega arith)))
-      ∙ ap (λ zs. take at (take n xs) ++ zs) (between_is xs (at + 1) n ∙ ap (λ k. drop k (take n xs)) one)
+-- the tasks of a row as a set
+row-bits : (s : TaskSet) (xs : List ℕ) (u : ℕ) → bits (fold {A = ℕ} (λ (r : TaskSet) t. record { bits = bit_or r.bits (bit t) }) s xs).bits u ≡ (bits s.bits u || (has xs u && ltb u 64))
+row-bits s [] u = grind (arith, nat_tests)
+row-bits s (x ∷ xs) u =
+    row-bits (record { bits = bit_or s.bits (bit x) }) xs u
+    ∙ ap (λ b. b || (has xs u && ltb u 64)) (ap (λ (f : ℕ → Bool). f u) (with-bits s.bits x))
+    ∙ grind (arith, nat_tests)
+
+pub row-set : (s : TaskSet) (xs : List ℕ) → s ≡ fold (λ (r : TaskSet) t. record { bits = bit_or r.bits (bit t) }) (record { bits = 0 }) xs → bits s.bits ≡ tasks (has xs)
+row-set s xs e = fun_ext (λ u. ap (λ (r : TaskSet). bits r.bits u) e ∙ row-bits (record { bits = 0 }) xs u ∙ ap (λ (f : ℕ → Bool). f u || (has xs u && ltb u 64)) zero-bits)

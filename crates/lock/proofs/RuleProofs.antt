@@ -1,20 +1,22 @@
 -- The kinds keep their own rules, and set-up keeps its
-use Rattle.std.proofs.Common.{◌≡◌, ℕ, zero, suc, ◌+◌, ◌*◌, ◌<◌, ◌≤◌, min, Bool, true, false, cond, not, ◌&&◌, ◌||◌, eqb, ltb, leb, List, [], ◌∷◌, ◌++◌, length, take, drop, Ok, Err, Result, sym, refl, ap, ◌∙◌, ⊎_elim, arith, length-take}
+use Rattle.std.proofs.Common.{◌≡◌, ℕ, zero, suc, ◌+◌, ◌*◌, ◌<◌, ◌≤◌, min, Bool, true, false, cond, not, ◌&&◌, ◌||◌, eqb, ltb, leb, List, [], ◌∷◌, ◌++◌, length, take, drop, Some, None, Ok, Err, Result, sym, refl, ap, ◌∙◌, ⊎_elim, arith, length-take}
 use Rattle.std.proofs.lemmas.List.{drop-append-le, drop-drop}
 use Rattle.std.proofs.lemmas.Bool.{or_left, or_right, not-true, and_right, and_from, ne_eqb, true≢false, cases_lt, cases_eq, lt-ltb, le-ltb, ltb-true, ltb-false, cond-true, cond-false, and_parts, eq-eqb, eqb-true, false≢true, both_ways}
 use Rattle.std.proofs.lemmas.Bool.Decides.{nat_tests}
 use Rattle.lock.specs.declared.Refusal.{Refusal}
 use Rattle.lock.specs.declared.Refusal.TheVariants.{NoSuchKind, CountUnfit}
-use Rattle.lock.specs.declared.Reply.TheVariants.{Granted, Waits, Declined}
-use Rattle.lock.specs.Words.{tally, has, index, distinct, removed, someone, first, less, nobody}
+use Rattle.lock.specs.declared.Reply.TheVariants.{Granted, Waits}
+use Rattle.task_set.specs.Sets.{tally, someone, less, nobody}
+use Rattle.task_set.proofs.Passing.{tally-same, someone-at, someone-is}
+use Rattle.lock.specs.Words.{has, index, distinct, removed, first}
 use Rattle.lock.specs.Model.{is_granted, queued, member, started}
 use Rattle.lock.specs.Fifo.{Fifo, FifoSound, fifo_holds, fifo_admits, fifo_reply, fifo_empty, mutex, replicas}
 use Rattle.lock.specs.PhaseFair.{Rw, RwSound, rw_admits, rw, rw_empty, Phase, idle, reading, writing, holds_in, wrote, mode_in, asked_in, reply_in, ended_in, next_writer, RestIn, ends_in, grants_in}
 use Rattle.lock.specs.Kinds.{Any, one, two, or_else, any}
 use Rattle.lock.specs.Rules.{FifoRules, PlacesRules, RwRules, SetUpRule, Rules, writer_holds, empty_of}
-use Rattle.lock.specs.Count.{tally-same, tally-into, tally-all}
-use Rattle.lock.specs.Lists.{else_false, index_short, index-once, members, distinct-rest, has-drop, someone-at, someone-is}
-use Rattle.lock.specs.Heads.{has-take}
+use Rattle.lock.specs.Count.{tally-into, tally-all}
+use Rattle.lock.specs.Lists.{else_false, index_short, index-once, members, distinct-rest, has-drop}
+use Rattle.lock.specs.Lists.{has-take}
 use Rattle.lock.specs.Starts.{starts}
 use Rattle.lock.specs.RwLaws.{q, small, mem, by_request}
 
@@ -51,15 +53,15 @@ fewer l g = ⊎_elim
     more : {a b c k n : ℕ} → a ≡ min k n → a ≤ b → b ≡ c → k ≤ n → k ≤ c
     more p q r s = omega arith
 
-granted_if : (b : Bool) → is_granted (cond b Granted Waits) ≡ b
+granted_if : (b : Bool) → is_granted (Some (cond b Granted Waits)) ≡ b
 granted_if true = refl
 granted_if false = refl
 
 -- who waits comes behind the places
-waiting-row : (l : Fifo) (t m : ℕ) → fifo_reply l t m ≡ Waits → (fifo_admits l t m ≡ true) × (l.places ≤ length l.row)
+waiting-row : (l : Fifo) (t m : ℕ) → fifo_reply l t m ≡ Some Waits → (fifo_admits l t m ≡ true) × (l.places ≤ length l.row)
 waiting-row l t m = go (fifo_admits l t m) (ltb (length l.row) l.places) refl
   where
-    go : (b d : Bool) → ltb (length l.row) l.places ≡ d → cond b (cond d Granted Waits) Declined ≡ Waits → (b ≡ true) × (l.places ≤ length l.row)
+    go : (b d : Bool) → ltb (length l.row) l.places ≡ d → cond b (Some (cond d Granted Waits)) None ≡ Some Waits → (b ≡ true) × (l.places ≤ length l.row)
     go true true e h = let z : ◌≡◌ {A = ℕ} 0 1 = cc in absurd (omega arith)
     go true false e h = (refl, ltb-false _ _ e)
     go false d e h = let z : ◌≡◌ {A = ℕ} 0 1 = cc in absurd (omega arith)
@@ -81,7 +83,7 @@ index-drop (suc k) (x ∷ xs) u h = let r = index-drop k xs u in grind (arith, n
 
 pub fifo-rules : (start : ℕ → ℕ → ℕ → Result Fifo Refusal) → FifoRules start
 fifo-rules start = record {
-  at_issue = λ l t m g h. ap is_granted (cond-true _ _ Declined (admitted _ _ _ h)) ∙ granted_if (ltb (length l.row) l.places) ∙ fewer l g;
+  at_issue = λ l t m g h. let reply = Some (cond (ltb (length l.row) l.places) Granted Waits) in ap is_granted (cond-true _ reply None (admitted _ reply None h)) ∙ granted_if (ltb (length l.row) l.places) ∙ fewer l g;
   by_issue = λ l t m h. let w = waiting-row l t m h in
       ap (λ b. drop l.places (cond b (l.row ++ (t ∷ [])) l.row)) w.0 ∙ drop-append-le l.places l.row (t ∷ []) w.1;
   turn_ends = λ l t. refl;
@@ -131,7 +133,7 @@ held-once : (l : Rw) (t : ℕ) → RwSound l → holds_in l.phase t ≡ true →
 held-once l t g h = let e = g.each t in grind (arith, nat_tests)
 
 -- the steps by their phase
-write_waits : (ph : Phase) (ws : List ℕ) (rs : ℕ → Bool) (t : ℕ) → reply_in ph ws false ≡ Waits → (asked_in ph ws rs t false).writers ≡ ws ++ (t ∷ [])
+write_waits : (ph : Phase) (ws : List ℕ) (rs : ℕ → Bool) (t : ℕ) → Some (reply_in ph ws false) ≡ Some Waits → (asked_in ph ws rs t false).writers ≡ ws ++ (t ∷ [])
 write_waits idle ws rs t h = let z : ◌≡◌ {A = ℕ} 0 1 = cc in absurd (omega arith)
 write_waits (reading s) [] rs t h = refl
 write_waits (reading s) (w ∷ ws) rs t h = refl
@@ -141,7 +143,7 @@ write_waits (writing x) ws rs t h = refl
 writes-mode : (l : Rw) (t m : ℕ) → rw_admits l t m ≡ true → eqb m 1 ≡ false → m ≡ 2
 writes-mode l t m e r = eqb-true m 2 (grind (arith, nat_tests))
 
-row_kept : (ph : Phase) (ws : List ℕ) (rs : ℕ → Bool) (t : ℕ) (reads : Bool) → (reply_in ph ws reads ≡ Waits → reads ≡ false → ⊥) → (asked_in ph ws rs t reads).writers ≡ ws
+row_kept : (ph : Phase) (ws : List ℕ) (rs : ℕ → Bool) (t : ℕ) (reads : Bool) → (Some (reply_in ph ws reads) ≡ Some Waits → reads ≡ false → ⊥) → (asked_in ph ws rs t reads).writers ≡ ws
 row_kept idle ws rs t true h = refl
 row_kept idle ws rs t false h = refl
 row_kept (reading s) [] rs t true h = refl
@@ -171,13 +173,13 @@ row-moves (writing x) ws rs t lt apart h = go (someone 64 rs)
     go true = sym (cond-false _ _ _ (someone-none _ apart))
     go false = next_row ws rs lt
 
-read-in : (ph : Phase) (ws : List ℕ) (rs : ℕ → Bool) (p : ℕ → Bool) → RestIn ph ws rs → ((u : ℕ) → p u ≡ (wrote ph u || has ws u)) → ((u : ℕ) → p u ≡ true → u < 64) → is_granted (reply_in ph ws true) ≡ not (someone 64 p)
+read-in : (ph : Phase) (ws : List ℕ) (rs : ℕ → Bool) (p : ℕ → Bool) → RestIn ph ws rs → ((u : ℕ) → p u ≡ (wrote ph u || has ws u)) → ((u : ℕ) → p u ≡ true → u < 64) → is_granted (Some (reply_in ph ws true)) ≡ not (someone 64 p)
 read-in idle ws rs p r is lt = sym (ap not (someone-none p (λ u. is u ∙ ap (λ xs. has xs u) r.0)))
 read-in (reading s) [] rs p r is lt = sym (ap not (someone-none p is))
 read-in (reading s) (w ∷ ws) rs p r is lt = let y : p w ≡ true = is w ∙ or_left (eqb w w) _ (eq-eqb w w refl) in sym (ap not (someone-at 64 p w (lt w y) y))
 read-in (writing x) ws rs p r is lt = let y : p x ≡ true = is x ∙ or_left (eqb x x) _ (eq-eqb x x refl) in sym (ap not (someone-at 64 p x (lt x y) y))
 
-write_in : (ph : Phase) (ws : List ℕ) (rs : ℕ → Bool) → RestIn ph ws rs → ((u : ℕ) → holds_in ph u ≡ true → u < 64) → is_granted (reply_in ph ws false) ≡ not (someone 64 (λ u. holds_in ph u))
+write_in : (ph : Phase) (ws : List ℕ) (rs : ℕ → Bool) → RestIn ph ws rs → ((u : ℕ) → holds_in ph u ≡ true → u < 64) → is_granted (Some (reply_in ph ws false)) ≡ not (someone 64 (λ u. holds_in ph u))
 write_in idle ws rs r lt = sym (ap not (someone-none (λ u. false) (λ u. refl)))
 write_in (reading s) [] rs r lt = sym (ap not (someone-at 64 s r.0.0 (lt r.0.0 r.0.1) r.0.1))
 write_in (reading s) (w ∷ ws) rs r lt = sym (ap not (someone-at 64 s r.0.0 (lt r.0.0 r.0.1) r.0.1))
@@ -231,16 +233,16 @@ rw-rules = record {
   writer_alone = λ l t u g h m k. alone-in l.phase l.writers t u (held-once l t g) h m k;
   waiting_writers = waiting_writers;
   waiting_readers = waiting_readers;
-  writers_by_issue = λ l t. by_request l t 2 (λ x r. r ≡ Waits → x.writers ≡ l.writers ++ (t ∷ [])) (λ e. write_waits l.phase l.writers l.readers t) (λ h. let z : ◌≡◌ {A = ℕ} 0 1 = cc in absurd (omega arith));
-  row_stays = λ l t m. by_request l t m (λ x r. (r ≡ Waits → m ≡ 2 → ⊥) → x.writers ≡ l.writers)
+  writers_by_issue = λ l t. by_request l t 2 (λ x r. r ≡ Some Waits → x.writers ≡ l.writers ++ (t ∷ [])) (λ e. write_waits l.phase l.writers l.readers t) (λ h. let z : ◌≡◌ {A = ℕ} 0 1 = cc in absurd (omega arith));
+  row_stays = λ l t m. by_request l t m (λ x r. (r ≡ Some Waits → m ≡ 2 → ⊥) → x.writers ≡ l.writers)
       (λ e n. row_kept l.phase l.writers l.readers t (eqb m 1) (λ w r. n w (writes-mode l t m e r)))
       (λ n. refl);
   moves_up = λ l t g h. ap (λ b. (cond b (ended_in l.phase l.writers l.readers t) l).writers) h
       ∙ row-moves l.phase l.writers l.readers t (λ u y. small l u g (or_right _ _ (or_left _ _ y))) (λ u. let e = g.each u in grind (arith, nat_tests)) h;
   shown = λ l. refl;
-  read_at_issue = λ l t g h. ap is_granted (cond-true _ _ Declined (admitted _ _ _ h))
+  read_at_issue = λ l t g h. let reply = Some (reply_in l.phase l.writers true) in ap is_granted (cond-true _ reply None (admitted _ reply None h))
       ∙ read-in l.phase l.writers l.readers (λ u. member rw l u && eqb (rw.mode l u) 2) g.rest (λ u. writers-are l u g) (λ u y. small l u g (sym (mem l u g) ∙ (and_parts (member rw l u) _ y).0));
-  write_at_issue = λ l t g h. ap is_granted (cond-true _ _ Declined (admitted _ _ _ h))
+  write_at_issue = λ l t g h. let reply = Some (reply_in l.phase l.writers false) in ap is_granted (cond-true _ reply None (admitted _ reply None h))
       ∙ write_in l.phase l.writers l.readers g.rest (λ u y. small l u g (or_left _ _ y));
   turn_ends = λ l t g h. ends_by l.phase t h;
   reader_completes = λ l t u g h m e. last_read l.phase l.writers l.readers t u h m e;

@@ -1,8 +1,7 @@
 -- The laws bound a wait: each turn that ends takes one from a waiter's turns to go
-use Rattle.std.proofs.Common.{◌≡◌, ℕ, ◌+◌, ◌<◌, ◌≤◌, Bool, true, false, cond, not, ◌&&◌, eqb, List, [], ◌∷◌, length, get_or, drop, Ok, sym, refl, ap, ◌∙◌, ⊎_elim, arith}
-use Rattle.std.proofs.lemmas.List.{at_drop_more, at_drop_all}
+use Rattle.std.proofs.Common.{◌≡◌, ℕ, ◌+◌, ◌<◌, ◌≤◌, Bool, true, false, cond, not, ◌&&◌, eqb, List, [], ◌∷◌, Some, None, Option, Ok, sym, refl, ap, ◌∙◌, ⊎_elim, arith}
 use Rattle.std.proofs.lemmas.Bool.{and_from, and_parts, and_right, or_cases, or_from, eqb-false, not-true, or_left, or_right, both_ways, eq-eqb}
-use Rattle.lock.specs.declared.Reply.TheVariants.{Granted, Waits, Declined}
+use Rattle.lock.specs.declared.Reply.TheVariants.{Granted, Waits}
 use Rattle.lock.specs.declared.Reply.{Reply}
 use Rattle.lock.specs.declared.Step.{Step}
 use Rattle.lock.specs.declared.Step.TheVariants.{Request, Completion}
@@ -10,48 +9,6 @@ use Rattle.lock.specs.Words.{has}
 use Rattle.lock.specs.Model.{LockModel, queued, member, crowd, is_granted, is_waits}
 use Rattle.lock.specs.Laws.{Laws}
 use Rattle.lock.specs.Waits.{after, ends_turn, grants_to, after_all, turns_to_grant, WaitsBounded, Live}
-
--- one step of the count: whether the wait is on, whether the step ends a turn and whether it grants
-counts-more : (w e d on : Bool) (n more rest : ℕ) → more ≡ cond w (cond e 1 0) 0 → on ≡ (w && not d) → (n + more) + cond on rest 0 ≡ n + cond w (cond e 1 0 + cond d 0 rest) 0
-counts-more true true true on n more rest p q = let r = ap (λ b. cond b rest 0) q in omega arith
-counts-more true true false on n more rest p q = let r = ap (λ b. cond b rest 0) q in omega arith
-counts-more true false true on n more rest p q = let r = ap (λ b. cond b rest 0) q in omega arith
-counts-more true false false on n more rest p q = let r = ap (λ b. cond b rest 0) q in omega arith
-counts-more false e d on n more rest p q = let r = ap (λ b. cond b rest 0) q in omega arith
-
-pub counts-few : (w e : Bool) (more : ℕ) → more ≡ cond w (cond e 1 0) 0 → more ≤ 1
-counts-few true true more p = omega arith
-counts-few true false more p = omega arith
-counts-few false e more p = omega arith
-
-module _ {L : Type 0} (K : LockModel L) (xs : List Step) (i : ℕ) (x d : Step) (lt : i < length xs) (is : x ≡ get_or xs i d) where
-  -- what is left of a list of steps, one step on
-  pub after_more : (v v' all : L) → v' ≡ after K v x → after_all K v (drop i xs) ≡ all → after_all K v' (drop (i + 1) xs) ≡ all
-  after_more v v' all e h = ap (λ y. after_all K y (drop (i + 1) xs)) (e ∙ ap (after K v) is) ∙ sym (at_drop_more (after_all K v) xs i d lt) ∙ h
-
-  pub turns_more : (v v' : L) (u n more all : ℕ) (w e g on : Bool) → v' ≡ after K v x → e ≡ ends_turn K v x → g ≡ grants_to K v u x → more ≡ cond w (cond e 1 0) 0 → on ≡ (w && not g)
-      → n + cond w (turns_to_grant K v u (drop i xs)) 0 ≡ all → (n + more) + cond on (turns_to_grant K v' u (drop (i + 1) xs)) 0 ≡ all
-  turns_more v v' u n more all w e g on p q r s o h =
-      let rest = turns_to_grant K v' u (drop (i + 1) xs) in
-      let f : ℕ → ℕ = λ k. n + cond w k 0 in
-      counts-more w e g on n more rest s o
-      ∙ ap (λ b. f (cond b 1 0 + cond g 0 rest)) q
-      ∙ ap (λ b. f (cond (ends_turn K v x) 1 0 + cond b 0 rest)) r
-      ∙ ap (λ y. f (cond (ends_turn K v x) 1 0 + cond (grants_to K v u x) 0 (turns_to_grant K y u (drop (i + 1) xs)))) p
-      ∙ ap (λ y. f (turns_to_grant K v u (y ∷ drop (i + 1) xs))) is
-      ∙ ap f (sym (at_drop_more (turns_to_grant K v u) xs i d lt)) ∙ h
-
-module _ {L : Type 0} (K : LockModel L) (xs : List Step) (i : ℕ) (end : length xs ≤ i) (v v₀ l : L) (is : v₀ ≡ l) where
-  -- at the end of a list of steps
-  pub after-end : after_all K v (drop i xs) ≡ after_all K v₀ xs → v ≡ after_all K l xs
-  after-end h = sym (at_drop_all (after_all K v) xs i end) ∙ h ∙ ap (λ y. after_all K y xs) is
-
-  pub turns-end : (u n : ℕ) (w : Bool) → n + cond w (turns_to_grant K v u (drop i xs)) 0 ≡ turns_to_grant K v₀ u xs → n ≡ turns_to_grant K l u xs
-  turns-end u n w h = nothing_left w n _ _ (at_drop_all (turns_to_grant K v u) xs i end) h ∙ ap (λ y. turns_to_grant K y u xs) is
-    where
-      nothing_left : (w : Bool) (n rest all : ℕ) → rest ≡ 0 → n + cond w rest 0 ≡ all → n ≡ all
-      nothing_left true n rest all e f = omega arith
-      nothing_left false n rest all e f = omega arith
 
 module _ {L : Type 0} {K : LockModel L} (a : Laws K) where
   after-sound : (l : L) (x : Step) → K.sound l → K.sound (after K l x)
@@ -104,7 +61,7 @@ module _ {L : Type 0} {K : LockModel L} (a : Laws K) where
   within l u [] g h = omega arith
   within l u (x ∷ xs) g h = step-within l u x (turns_to_grant K (after K l x) u xs) g h (λ k. within (after K l x) u xs (after-sound l x g) k)
 
-  pub wait_within : (l : L) (t m : ℕ) (xs : List Step) → K.sound l → K.reply l t m ≡ Waits → turns_to_grant K (K.requested l t m) t xs ≤ K.limit l m (crowd K l)
+  pub wait_within : (l : L) (t m : ℕ) (xs : List Step) → K.sound l → K.reply l t m ≡ Some Waits → turns_to_grant K (K.requested l t m) t xs ≤ K.limit l m (crowd K l)
   wait_within l t m xs g w =
       let k : queued K (K.requested l t m) t ≡ true = a.request_queued l t m t g ∙ or_right (queued K l t) _ (and_from (eqb t t) _ (eq-eqb t t refl) (ap is_waits w)) in
       let b : turns_to_grant K (K.requested l t m) t xs ≤ K.togo (K.requested l t m) t = within (K.requested l t m) t xs (a.request_sound l t m g) k in
@@ -142,7 +99,7 @@ module _ {L : Type 0} {K : LockModel L} (a : Laws K) where
       go false e = absurd (both_ways (K.grants l t v) (a.none_granted l t v g h e) y)
 
   -- who waits for an empty lock would wait for nobody
-  empty-grants : (kind k m t mode : ℕ) (l : L) → K.start kind k m ≡ Ok l → t < 64 → K.fits l mode ≡ true → K.reply l t mode ≡ Granted
+  empty-grants : (kind k m t mode : ℕ) (l : L) → K.start kind k m ≡ Ok l → t < 64 → K.fits l mode ≡ true → K.reply l t mode ≡ Some Granted
   empty-grants kind k m t mode l e lt f = go (K.reply l t mode) refl
     where
       sound : K.sound l
@@ -151,14 +108,14 @@ module _ {L : Type 0} {K : LockModel L} (a : Laws K) where
       free : member K l t ≡ false
       free = or_from _ _ (a.start_unheld kind k m t l e) (ap (λ xs. has xs t) (a.start_list kind k m l e))
 
-      go : (r : Reply) → K.reply l t mode ≡ r → r ≡ Granted
-      go Granted y = refl
-      go Waits y =
+      go : (r : Option Reply) → K.reply l t mode ≡ r → r ≡ Some Granted
+      go (Some Granted) y = refl
+      go (Some Waits) y =
           let w : queued K (K.requested l t mode) t ≡ true = a.request_queued l t mode t sound ∙ or_right (queued K l t) _ (and_from (eqb t t) _ (eq-eqb t t refl) (ap is_waits y)) in
           let s = a.served (K.requested l t mode) t (a.request_sound l t mode sound) w in
           absurd (both_ways (K.holds (K.requested l t mode) s.0)
           (a.request_holds l t mode s.0 sound ∙ or_from _ _ (a.start_unheld kind k m s.0 l e) (ap (λ r. eqb t s.0 && is_granted r) y ∙ and_right _ _ refl)) s.1)
-      go Declined y = absurd (a.taken l t mode sound lt free f y)
+      go None y = absurd (a.taken l t mode sound lt free f y)
 
   pub live : Live K
   live = record {

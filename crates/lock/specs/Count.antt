@@ -2,19 +2,11 @@
 use Rattle.std.specs.Prelude.{◌≡◌, ℕ, zero, suc, ◌+◌, ◌<◌, ◌≤◌, Bool, true, false, cond, not, ◌&&◌, ◌==◌, ◌≢◌, nat_eq, refl}
 use Rattle.std.proofs.Common.{sym, ap, ◌∙◌, ⊎_elim, arith}
 use Rattle.std.proofs.lemmas.Bool.{cases_Bool, cases_eq, and_left, eq-eqb, ne_eqb, not_from_true}
-use Rattle.lock.specs.Words.{tally}
+use Rattle.task_set.specs.Sets.{tally}
+use Rattle.task_set.proofs.Passing.{tally-same}
 
 abbrev pub one : Bool → ℕ
 one b = cond b 1 0
-
--- two tests that agree below n have one tally
-pub tally-same : (n : ℕ) (p q : ℕ → Bool) → ((t : ℕ) → t < n → p t ≡ q t) → tally n p ≡ tally n q
-unfolding tally
-tally-same zero p q h = refl
-tally-same (suc n) p q h =
-    let a : one (p n) ≡ one (q n) = ap one (h n (omega arith)) in
-    let b : tally n p ≡ tally n q = tally-same n p q (λ t l. h t (omega arith)) in
-    omega arith
 
 abbrev pub without : (ℕ → Bool) → ℕ → ℕ → Bool
 without q x u = not (u == x) && q u

@@ -1,8 +1,8 @@
 -- Places in a row: the first `places` of the row hold, the others wait, by issue. A mutex is the row with one place.
-use Rattle.std.specs.Prelude.{◌≡◌, ℕ, suc, ◌-◌, ◌<◌, ◌≤◌, Bool, true, cond, not, ◌&&◌, List, [], ◌∷◌, ◌++◌, length, drop, Result, ◌==◌, nat_le, nat_lt}
+use Rattle.std.specs.Prelude.{◌≡◌, ℕ, suc, ◌-◌, ◌<◌, ◌≤◌, Bool, true, cond, not, ◌&&◌, List, [], ◌∷◌, ◌++◌, length, drop, Some, None, Option, Ok, Result, ◌==◌, nat_le, nat_lt}
 use Rattle.lock.specs.declared.Refusal.{Refusal}
 use Rattle.lock.specs.declared.Reply.{Reply}
-use Rattle.lock.specs.declared.Reply.TheVariants.{Granted, Waits, Declined}
+use Rattle.lock.specs.declared.Reply.TheVariants.{Granted, Waits}
 use Rattle.lock.specs.Words.{first, has, distinct, index, removed}
 use Rattle.lock.specs.Model.{LockModel, started}
 
@@ -26,8 +26,8 @@ abbrev pub fifo_admits : Fifo → ℕ → ℕ → Bool
 fifo_admits l t m = m == 0 && (nat_lt t 64 && (nat_lt (length l.row) 64 && not (has l.row t)))
 
 -- what a request is answered
-abbrev pub fifo_reply : Fifo → ℕ → ℕ → Reply
-fifo_reply l t m = cond (fifo_admits l t m) (cond (nat_lt (length l.row) l.places) Granted Waits) Declined
+abbrev pub fifo_reply : Fifo → ℕ → ℕ → Option Reply
+fifo_reply l t m = cond (fifo_admits l t m) (Some (cond (nat_lt (length l.row) l.places) Granted Waits)) None
 
 -- nobody in the row
 abbrev pub fifo_empty : ℕ → Fifo
@@ -51,6 +51,10 @@ fifo start = record {
   grants = λ l t u. first (drop l.places l.row) u;
   ends = λ l t. true;
 }
+
+-- a start that makes nothing but a row of nobody with some places
+abbrev pub Begins : (ℕ → ℕ → ℕ → Result Fifo Refusal) → Type 0
+Begins start = (kind k m : ℕ) (l : Fifo) → start kind k m ≡ Ok l → (p : ℕ) × (1 ≤ p) × (fifo_empty p ≡ l)
 
 -- kind 1, whose count is 0: one place
 abbrev pub mutex : LockModel Fifo

@@ -1,15 +1,17 @@
 -- A row with places keeps the laws of locks, and so do mutex and replicas
-use Rattle.std.specs.Prelude.{◌≡◌, ℕ, zero, suc, ◌-◌, ◌<◌, ◌≤◌, Bool, true, false, cond, not, ◌&&◌, ◌||◌, List, [], ◌∷◌, ◌++◌, length, drop, Ok, Result, ◌==◌, ◌≢◌, nat_eq, nat_le, nat_lt, refl}
+use Rattle.std.specs.Prelude.{◌≡◌, ℕ, zero, suc, ◌-◌, ◌<◌, ◌≤◌, Bool, true, false, cond, not, ◌&&◌, ◌||◌, List, [], ◌∷◌, ◌++◌, length, drop, Some, None, Result, ◌==◌, ◌≢◌, nat_eq, nat_le, nat_lt, refl}
 use Rattle.std.proofs.Common.{sym, ap, ◌∙◌, subst, ⊎_elim, arith}
 use Rattle.std.proofs.lemmas.Bool.{true≢false, le-leb, leb-true, cases_eq, false≢true, and_parts, or_cases, eq-eqb, eqb-true, ltb-true, cond-true}
 use Rattle.std.proofs.lemmas.Bool.Decides.{nat_tests}
 use Rattle.lock.specs.declared.Refusal.{Refusal}
-use Rattle.lock.specs.declared.Reply.TheVariants.{Granted, Waits, Declined}
-use Rattle.lock.specs.Words.{first, tally, has, index, removed}
+use Rattle.lock.specs.declared.Reply.TheVariants.{Granted, Waits}
+use Rattle.task_set.specs.Sets.{tally}
+use Rattle.task_set.proofs.Passing.{tally-same}
+use Rattle.lock.specs.Words.{first, has, index, removed}
 use Rattle.lock.specs.Model.{queued, member, is_granted, is_waits}
 use Rattle.lock.specs.Laws.{Laws}
-use Rattle.lock.specs.Fifo.{Fifo, FifoSound, fifo, mutex, replicas, fifo_holds, fifo_admits, fifo_reply, fifo_empty}
-use Rattle.lock.specs.Count.{tally-same, tally-into, tally-all}
+use Rattle.lock.specs.Fifo.{Fifo, FifoSound, fifo, mutex, replicas, fifo_holds, fifo_admits, fifo_reply, fifo_empty, Begins}
+use Rattle.lock.specs.Count.{tally-into, tally-all}
 use Rattle.lock.specs.Lists.{else_false, index_short, has-snoc, index-snoc, index-last, distinct_snoc, has-removed, distinct-removed, index-removed, distinct-drop, has-drop, head_drop, index-once, members, room}
 use Rattle.lock.specs.Starts.{starts, exact}
 
@@ -65,7 +67,7 @@ request_good l t m g = go (fifo_admits l t m) refl
 request_holds : (l : Fifo) (t m u : ℕ) → FifoSound l → fifo_holds (mutex.requested l t m) u ≡ (fifo_holds l u || (t == u && is_granted (fifo_reply l t m)))
 request_holds l t m u g = go (fifo_admits l t m) refl
   where
-    go : (b : Bool) → fifo_admits l t m ≡ b → fifo_holds (with_row l (cond b (l.row ++ (t ∷ [])) l.row)) u ≡ (fifo_holds l u || (t == u && is_granted (cond b (cond (nat_lt (length l.row) l.places) Granted Waits) Declined)))
+    go : (b : Bool) → fifo_admits l t m ≡ b → fifo_holds (with_row l (cond b (l.row ++ (t ∷ [])) l.row)) u ≡ (fifo_holds l u || (t == u && is_granted (cond b (Some (cond (nat_lt (length l.row) l.places) Granted Waits)) None)))
     go true e = let f = free l t m e in let a = has-snoc l.row t u in let b = index-snoc l.row t u in let c = index-last l.row t f.0 in
         ⊎_elim (λ (y : t ≡ u). let n : has l.row u ≡ false = ap (has l.row) (sym y) ∙ f.0 in let c2 : index (l.row ++ (t ∷ [])) u ≡ length l.row = ap (index (l.row ++ (t ∷ []))) (sym y) ∙ c in grind (arith, nat_tests))
         (λ (y : t ≡ u → ⊥). grind (arith, nat_tests)) (cases_eq t u)
@@ -76,7 +78,7 @@ request_queued l t m u g =
     let x = q (mutex.requested l t m) u (request_good l t m g) in
     let y = q l u g in x ∙ go (fifo_admits l t m) refl ∙ ap (λ b. b || (t == u && is_waits (fifo_reply l t m))) (sym y)
   where
-    go : (b : Bool) → fifo_admits l t m ≡ b → (has (cond b (l.row ++ (t ∷ [])) l.row) u && nat_le l.places (index (cond b (l.row ++ (t ∷ [])) l.row) u)) ≡ ((has l.row u && nat_le l.places (index l.row u)) || (t == u && is_waits (cond b (cond (nat_lt (length l.row) l.places) Granted Waits) Declined)))
+    go : (b : Bool) → fifo_admits l t m ≡ b → (has (cond b (l.row ++ (t ∷ [])) l.row) u && nat_le l.places (index (cond b (l.row ++ (t ∷ [])) l.row) u)) ≡ ((has l.row u && nat_le l.places (index l.row u)) || (t == u && is_waits (cond b (Some (cond (nat_lt (length l.row) l.places) Granted Waits)) None)))
     go true e = let f = free l t m e in let a = has-snoc l.row t u in let b = index-snoc l.row t u in let c = index-last l.row t f.0 in
         ⊎_elim (λ (y : t ≡ u). let n : has l.row u ≡ false = ap (has l.row) (sym y) ∙ f.0 in let c2 : index (l.row ++ (t ∷ [])) u ≡ length l.row = ap (index (l.row ++ (t ∷ []))) (sym y) ∙ c in grind (arith, nat_tests))
         (λ (y : t ≡ u → ⊥). grind (arith, nat_tests)) (cases_eq t u)
@@ -89,10 +91,10 @@ request_togo l t m u g h = let a = q l u g in go (fifo_admits l t m)
     go true = let a = q l u g in let b : index (l.row ++ (t ∷ [])) u ≡ index l.row u = index-snoc l.row t u (and_parts (has l.row u) _ (sym a ∙ h)).0 in omega arith
     go false = omega arith
 
-request_turn : (l : Fifo) (t m u : ℕ) → FifoSound l → queued mutex l u ≡ true → fifo_reply l t m ≢ Granted
+request_turn : (l : Fifo) (t m u : ℕ) → FifoSound l → queued mutex l u ≡ true → fifo_reply l t m ≢ Some Granted
 request_turn l t m u g h e = let a = q l u g in let b = index_short l.row u in let z : ◌≡◌ {A = ℕ} 0 1 = grind (arith, nat_tests) in omega arith
 
-newcomer : (l : Fifo) (t m n : ℕ) → FifoSound l → ((u : ℕ) → n ≤ u → member mutex l u ≡ false) → fifo_reply l t m ≡ Waits → mutex.togo (mutex.requested l t m) t ≤ mutex.limit l m (tally n (member mutex l))
+newcomer : (l : Fifo) (t m n : ℕ) → FifoSound l → ((u : ℕ) → n ≤ u → member mutex l u ≡ false) → fifo_reply l t m ≡ Some Waits → mutex.togo (mutex.requested l t m) t ≤ mutex.limit l m (tally n (member mutex l))
 newcomer l t m n g out e =
     let f = free l t m (grind (arith, nat_tests)) in
     let k : l.places ≤ length l.row = grind (arith, nat_tests) in
@@ -156,30 +158,26 @@ module _ (l : Fifo) (t u : ℕ) (g : FifoSound l) (h : fifo_holds l t ≡ true) 
       (let a = after-has in let b = after-index in let c = here in grind (arith, nat_tests)) in
       omega arith
 
-reply-not : (l : Fifo) (t m : ℕ) → fifo_admits l t m ≡ false → fifo_reply l t m ≡ Declined
-reply-not l t m e = ap (λ b. cond b (cond (nat_lt (length l.row) l.places) Granted Waits) Declined) e
+reply-not : (l : Fifo) (t m : ℕ) → fifo_admits l t m ≡ false → fifo_reply l t m ≡ None
+reply-not l t m e = ap (λ b. cond b (Some (cond (nat_lt (length l.row) l.places) Granted Waits)) None) e
 
-busy : (l : Fifo) (t m : ℕ) → FifoSound l → member mutex l t ≡ true → fifo_reply l t m ≡ Declined
+busy : (l : Fifo) (t m : ℕ) → FifoSound l → member mutex l t ≡ true → fifo_reply l t m ≡ None
 busy l t m g h = let a = mem l t g in reply-not l t m (grind (arith, nat_tests))
 
-taken : (l : Fifo) (t m : ℕ) → FifoSound l → t < 64 → member mutex l t ≡ false → (m == 0) ≡ true → fifo_reply l t m ≢ Declined
+taken : (l : Fifo) (t m : ℕ) → FifoSound l → t < 64 → member mutex l t ≡ false → (m == 0) ≡ true → fifo_reply l t m ≢ None
 taken l t m g lt h f e =
     let a : has l.row t ≡ false = sym (mem l t g) ∙ h in
     let r = room l.row t g.apart g.small lt a in
     let z : ◌≡◌ {A = ℕ} 0 1 = grind (arith, nat_tests) in omega arith
 
-request_declined : (l : Fifo) (t m : ℕ) → fifo_reply l t m ≡ Declined → mutex.requested l t m ≡ l
+request_declined : (l : Fifo) (t m : ℕ) → fifo_reply l t m ≡ None → mutex.requested l t m ≡ l
 request_declined l t m h = go (fifo_admits l t m) h
   where
-    go : (b : Bool) → cond b (cond (nat_lt (length l.row) l.places) Granted Waits) Declined ≡ Declined → with_row l (cond b (l.row ++ (t ∷ [])) l.row) ≡ l
+    go : (b : Bool) → cond b (Some (cond (nat_lt (length l.row) l.places) Granted Waits)) None ≡ None → with_row l (cond b (l.row ++ (t ∷ [])) l.row) ≡ l
     go true e = let z : ◌≡◌ {A = ℕ} 0 1 = grind (arith, e) in absurd (omega arith)
     go false e = refl
 
--- a start that makes nothing but a row of nobody with some places
-abbrev Begins : (ℕ → ℕ → ℕ → Result Fifo Refusal) → Type 0
-Begins start = (kind k m : ℕ) (l : Fifo) → start kind k m ≡ Ok l → (p : ℕ) × (1 ≤ p) × (fifo_empty p ≡ l)
-
-fifo-lawful : (start : ℕ → ℕ → ℕ → Result Fifo Refusal) → Begins start → Laws (fifo start)
+pub fifo-lawful : (start : ℕ → ℕ → ℕ → Result Fifo Refusal) → Begins start → Laws (fifo start)
 fifo-lawful start begins = record {
   start_sound = λ kind k m l e. let b = begins kind k m l e in subst FifoSound b.2 (record { apart = refl; small = λ u h. absurd (false≢true h); some = b.1 });
   start_unheld = λ kind k m u l e. ap (λ x. fifo_holds x u) (sym (begins kind k m l e).2);
@@ -239,7 +237,7 @@ fifo-lawful start begins = record {
     above-all : (u : ℕ) → 64 ≤ u → u < 64 → ⊥
     above-all u h k = omega arith
 
-    asked-0 : (l : Fifo) (t m : ℕ) → (fifo_reply l t m ≢ Declined) → 0 ≡ m
+    asked-0 : (l : Fifo) (t m : ℕ) → (fifo_reply l t m ≢ None) → 0 ≡ m
     asked-0 l t m h = ⊎_elim (λ (e : m ≡ 0). sym e) (λ (ne : m ≡ 0 → ⊥). absurd (h (reply-not l t m (grind (arith, nat_tests))))) (cases_eq m 0)
 
     moved_holds : (l : Fifo) (t u : ℕ) → FifoSound l → fifo_holds l t ≡ true → fifo_holds (mutex.completed l t) u ≡ ((fifo_holds l u && not (t == u)) || mutex.grants l t u)
@@ -248,8 +246,14 @@ fifo-lawful start begins = record {
     waited : (l : Fifo) (u : ℕ) → FifoSound l → first (drop l.places l.row) u ≡ true → queued mutex l u ≡ true
     waited l u g y = let a = q l u g in let b = sym (gr l u g) ∙ y in grind (arith, nat_tests)
 
+pub mutex-begins : Begins mutex.start
+mutex-begins kind k m l e = let s = starts (kind == 1) (k == 0) (fifo_empty 1) l e in (1, omega arith, s.2)
+
+pub replicas-begins : Begins replicas.start
+replicas-begins kind k m l e = let s = starts (kind == 3) (nat_le 1 k && nat_le k m) (fifo_empty k) l e in (k, leb-true 1 k (and_parts (nat_le 1 k) _ s.1).0, s.2)
+
 pub mutex-lawful : Laws mutex
-mutex-lawful = fifo-lawful mutex.start (λ kind k m l e. let s = starts (kind == 1) (k == 0) (fifo_empty 1) l e in (1, omega arith, s.2))
+mutex-lawful = fifo-lawful mutex.start mutex-begins
 
 pub replicas-lawful : Laws replicas
-replicas-lawful = fifo-lawful replicas.start (λ kind k m l e. let s = starts (kind == 3) (nat_le 1 k && nat_le k m) (fifo_empty k) l e in (k, leb-true 1 k (and_parts (nat_le 1 k) _ s.1).0, s.2))
+replicas-lawful = fifo-lawful replicas.start replicas-begins

@@ -1,6 +1,6 @@
 -- The laws that every kind of lock keeps.
-use Rattle.std.specs.Prelude.{◌≡◌, ℕ, ◌<◌, ◌≤◌, true, false, not, ◌&&◌, ◌||◌, [], Ok, ◌==◌, ◌≢◌}
-use Rattle.lock.specs.declared.Reply.TheVariants.{Granted, Waits, Declined}
+use Rattle.std.specs.Prelude.{◌≡◌, ℕ, ◌<◌, ◌≤◌, true, false, not, ◌&&◌, ◌||◌, [], Some, None, Ok, ◌==◌, ◌≢◌}
+use Rattle.lock.specs.declared.Reply.TheVariants.{Granted, Waits}
 use Rattle.lock.specs.Words.{distinct}
 use Rattle.lock.specs.Model.{LockModel, is_granted, is_waits, queued, member, crowd, holding}
 
@@ -25,12 +25,12 @@ pub record Laws {L : Type 0} (K : LockModel L) : Type 0 where
   pub request_holds : (l : L) (t m u : ℕ) → K.sound l → K.holds (K.requested l t m) u ≡ (K.holds l u || (t == u && is_granted (K.reply l t m)))
   pub request_queued : (l : L) (t m u : ℕ) → K.sound l → queued K (K.requested l t m) u ≡ (queued K l u || (t == u && is_waits (K.reply l t m)))
   pub request_togo : (l : L) (t m u : ℕ) → K.sound l → queued K l u ≡ true → K.togo (K.requested l t m) u ≤ K.togo l u
-  pub request_mode : (l : L) (t m : ℕ) → K.sound l → (K.reply l t m ≢ Declined) → K.mode (K.requested l t m) t ≡ m
+  pub request_mode : (l : L) (t m : ℕ) → K.sound l → (K.reply l t m ≢ None) → K.mode (K.requested l t m) t ≡ m
   pub request_modes : (l : L) (t m u : ℕ) → K.sound l → member K l u ≡ true → K.mode (K.requested l t m) u ≡ K.mode l u
   -- if anyone waits, the newcomer is not granted
-  pub request_turn : (l : L) (t m u : ℕ) → K.sound l → queued K l u ≡ true → K.reply l t m ≢ Granted
+  pub request_turn : (l : L) (t m u : ℕ) → K.sound l → queued K l u ≡ true → K.reply l t m ≢ Some Granted
   -- a newcomer's turns to go are within the limit for the number that held or waited, which never falls as that grows
-  pub newcomer : (l : L) (t m : ℕ) → K.sound l → K.reply l t m ≡ Waits → K.togo (K.requested l t m) t ≤ K.limit l m (crowd K l)
+  pub newcomer : (l : L) (t m : ℕ) → K.sound l → K.reply l t m ≡ Some Waits → K.togo (K.requested l t m) t ≤ K.limit l m (crowd K l)
   pub grows : (l : L) (m o p : ℕ) → o ≤ p → K.limit l m o ≤ K.limit l m p
   -- a completion: its task goes out, the granted alone go over from the waiting to the holders, and nobody's mode changes
   pub complete_sound : (l : L) (t : ℕ) → K.sound l → K.sound (K.completed l t)
@@ -44,12 +44,12 @@ pub record Laws {L : Type 0} (K : LockModel L) : Type 0 where
   pub turns_stay : (l : L) (t u : ℕ) → K.sound l → K.holds l t ≡ true → K.ends l t ≡ false → queued K l u ≡ true → K.togo (K.completed l t) u ≡ K.togo l u
   pub turn_ends : (l : L) (t u : ℕ) → K.sound l → K.holds l t ≡ true → K.ends l t ≡ true → queued K (K.completed l t) u ≡ true → K.togo (K.completed l t) u < K.togo l u
   -- declined: a request by one who holds or waits, for an unfit mode, or by a task above 63, and nothing else
-  pub busy : (l : L) (t m : ℕ) → K.sound l → member K l t ≡ true → K.reply l t m ≡ Declined
-  pub unfit : (l : L) (t m : ℕ) → K.fits l m ≡ false → K.reply l t m ≡ Declined
-  pub above : (l : L) (t m : ℕ) → 64 ≤ t → K.reply l t m ≡ Declined
-  pub taken : (l : L) (t m : ℕ) → K.sound l → t < 64 → member K l t ≡ false → K.fits l m ≡ true → K.reply l t m ≢ Declined
+  pub busy : (l : L) (t m : ℕ) → K.sound l → member K l t ≡ true → K.reply l t m ≡ None
+  pub unfit : (l : L) (t m : ℕ) → K.fits l m ≡ false → K.reply l t m ≡ None
+  pub above : (l : L) (t m : ℕ) → 64 ≤ t → K.reply l t m ≡ None
+  pub taken : (l : L) (t m : ℕ) → K.sound l → t < 64 → member K l t ≡ false → K.fits l m ≡ true → K.reply l t m ≢ None
   -- a declined call leaves the lock as it was
-  pub request_declined : (l : L) (t m : ℕ) → K.reply l t m ≡ Declined → K.requested l t m ≡ l
+  pub request_declined : (l : L) (t m : ℕ) → K.reply l t m ≡ None → K.requested l t m ≡ l
   pub complete_declined : (l : L) (t : ℕ) → K.holds l t ≡ false → K.completed l t ≡ l
   -- limits, fit modes and the exclusion stay as set up
   pub request_limit : (l : L) (t m mode o : ℕ) → K.limit (K.requested l t m) mode o ≡ K.limit l mode o

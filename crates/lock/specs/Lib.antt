@@ -15,6 +15,3 @@ pub mod Count
 pub mod Lists
 pub mod Starts
 pub mod RwLaws
-pub mod Steps
-pub mod Heads
-pub mod Masks

@@ -1,19 +1,17 @@
 -- Rows of tasks without repeats, and sets of tasks
-use Rattle.std.specs.Prelude.{◌≡◌, ℕ, zero, suc, ◌+◌, ◌-◌, ◌<◌, ◌≤◌, Bool, true, false, cond, not, ◌&&◌, ◌||◌, ltb, List, [], ◌∷◌, ◌++◌, length, drop, ◌==◌, ◌≢◌, nat_eq, nat_le, nat_lt, refl}
+use Rattle.std.specs.Prelude.{◌≡◌, ℕ, zero, suc, ◌+◌, ◌-◌, ◌<◌, ◌≤◌, Bool, true, false, cond, not, ◌&&◌, ◌||◌, ltb, List, [], ◌∷◌, ◌++◌, length, take, drop, ◌==◌, ◌≢◌, nat_eq, nat_le, nat_lt, refl}
 use Rattle.std.proofs.Common.{sym, ap, ◌∙◌, ⊎_elim, arith}
 use Rattle.std.proofs.lemmas.Bool.{cases_eq, cases_lt, both_ways, false≢true, true≢false, and_parts, and_from, or_parts, or_left, eq-eqb, ne_eqb, eqb-true, not-true, or_cases, or_from, or_right}
 use Rattle.std.proofs.lemmas.List.{append-nil}
+use Rattle.std.proofs.lemmas.List.Folds.{list_any-append}
 use Rattle.std.proofs.lemmas.Bool.Decides.{nat_tests}
-use Rattle.lock.specs.Words.{tally, has, distinct, index, removed, head_is, someone, upto}
-use Rattle.lock.specs.Count.{tally-same, tally-into, tally-without, without}
+use Rattle.task_set.specs.Sets.{tally, upto}
+use Rattle.task_set.proofs.Passing.{tally-same, tally-most}
+use Rattle.lock.specs.Words.{has, distinct, index, removed, head_is}
+use Rattle.lock.specs.Count.{tally-into, tally-without, without}
 
 pub eqb-sym : (a b : ℕ) → (a == b) ≡ (b == a)
 eqb-sym a b = grind (arith, nat_tests)
-
--- a test that is not false passes
-pub else_true : (b : Bool) → (b ≢ false) → b ≡ true
-else_true true h = refl
-else_true false h = absurd (h refl)
 
 pub else_false : (b : Bool) → (b ≢ true) → b ≡ false
 else_false true h = absurd (h refl)
@@ -107,11 +105,6 @@ members (x ∷ xs) n g h =
     same false true c e h = absurd (false≢true e)
     same false false c e h = refl
 
-pub tally-most : (n : ℕ) (p : ℕ → Bool) → tally n p ≤ n
-unfolding tally
-tally-most zero p = omega arith
-tally-most (suc n) p = let r = tally-most n p in grind (arith, r)
-
 pub tally-mono : (n : ℕ) (p q : ℕ → Bool) → ((u : ℕ) → p u ≡ true → q u ≡ true) → tally n p ≤ tally n q
 tally-mono n p q h = tally-into n n p q (λ t. t) (λ t l y. (l, h t y)) (λ t u _ _ _ _ e. e)
 
@@ -132,30 +125,10 @@ room l t g small lt h =
     trans2 : {a b : ℕ} → suc a ≤ b → b ≤ 64 → a < 64
     trans2 x y = omega arith
 
-pub someone-at : (n : ℕ) (p : ℕ → Bool) (u : ℕ) → u < n → p u ≡ true → someone n p ≡ true
-unfolding someone
-someone-at zero p u l h = absurd (omega arith)
-someone-at (suc n) p u l h = ⊎_elim
-    (λ (e : u ≡ n). or_left (p n) _ (ap p (sym e) ∙ h))
-    (λ (ne : u ≡ n → ⊥). or_right (p n) _ (someone-at n p u (omega arith) h))
-    (cases_eq u n)
-
-pub someone-is : (n : ℕ) (p : ℕ → Bool) → someone n p ≡ true → (u : ℕ) × (p u ≡ true)
-unfolding someone
-someone-is zero p h = absurd (false≢true h)
-someone-is (suc n) p h = ⊎_elim
-    (λ (y : p n ≡ true). (n, y))
-    (λ (y : someone n p ≡ true). someone-is n p y)
-    (or_cases (p n) _ h)
-
-pub has-append : (l m : List ℕ) (u : ℕ) → has (l ++ m) u ≡ (has l u || has m u)
-has-append [] m u = refl
-has-append (x ∷ xs) m u = let r = has-append xs m u in grind (arith, r)
-
 pub has-upto : (n : ℕ) (p : ℕ → Bool) (u : ℕ) → has (upto n p) u ≡ (nat_lt u n && p u)
 unfolding upto
 has-upto zero p u = grind (arith, nat_tests)
-has-upto (suc n) p u = has-append (upto n p) (cond (p n) (n ∷ []) []) u ∙ ap (λ b. b || has (cond (p n) (n ∷ []) []) u) (has-upto n p u) ∙ go (p n) refl
+has-upto (suc n) p u = list_any-append (λ x. x == u) (upto n p) (cond (p n) (n ∷ []) []) ∙ ap (λ b. b || has (cond (p n) (n ∷ []) []) u) (has-upto n p u) ∙ go (p n) refl
   where
     go : (b : Bool) → p n ≡ b → ((nat_lt u n && p u) || has (cond b (n ∷ []) []) u) ≡ (nat_lt u (suc n) && p u)
     go true e = ⊎_elim
@@ -175,7 +148,7 @@ distinct_append [] m g h k = h
 distinct_append (x ∷ xs) m g h k =
     let d = and_parts (not (has xs x)) _ g in
     let r = distinct_append xs m d.1 h (λ u y. k u (or_right (x == u) _ y)) in
-    let n : has (xs ++ m) x ≡ false = has-append xs m x ∙ or_from _ _ (not-true (has xs x) d.0) (k x (or_left (x == x) _ (eq-eqb x x refl))) in
+    let n : has (xs ++ m) x ≡ false = list_any-append (λ y. y == x) xs m ∙ or_from _ _ (not-true (has xs x) d.0) (k x (or_left (x == x) _ (eq-eqb x x refl))) in
     and_from (not (has (xs ++ m) x)) _ (ap not n) r
 
 pub distinct-upto : (n : ℕ) (p : ℕ → Bool) → distinct (upto n p) ≡ true
@@ -186,3 +159,9 @@ distinct-upto (suc n) p = go (p n) (distinct-upto n p)
     go : (b : Bool) → distinct (upto n p) ≡ true → distinct (upto n p ++ cond b (n ∷ []) []) ≡ true
     go true d = distinct_snoc (upto n p) n d (has-upto n p n ∙ (let e : ltb n n ≡ false = grind (arith, nat_tests) in ap (λ b. b && p n) e))
     go false d = ap distinct (append-nil (upto n p)) ∙ d
+
+-- the first k of a row are those whose place is below k
+pub has-take : (k : ℕ) (xs : List ℕ) (u : ℕ) → has (take k xs) u ≡ (has xs u && nat_lt (index xs u) k)
+has-take zero xs u = grind (arith, nat_tests)
+has-take (suc k) [] u = refl
+has-take (suc k) (x ∷ xs) u = let r = has-take k xs u in grind (arith, nat_tests)

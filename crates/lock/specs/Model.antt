@@ -1,10 +1,11 @@
 -- What a lock means: who holds it, who waits, for how many turns, and what its steps make of it.
-use Rattle.std.specs.Prelude.{ℕ, Bool, true, false, cond, ◌&&◌, ◌||◌, List, ◌++◌, length, drop, Ok, Err, Result, ◌==◌, nat_le}
+use Rattle.std.specs.Prelude.{ℕ, Bool, true, false, cond, ◌&&◌, ◌||◌, List, ◌++◌, length, drop, Some, None, Option, Ok, Err, Result, ◌==◌, nat_le}
 use Rattle.lock.specs.declared.Refusal.{Refusal}
 use Rattle.lock.specs.declared.Refusal.TheVariants.{NoSuchKind, CountUnfit, BufferTooShort}
 use Rattle.lock.specs.declared.Reply.{Reply}
-use Rattle.lock.specs.declared.Reply.TheVariants.{Granted, Waits, Declined}
-use Rattle.lock.specs.Words.{tally, has}
+use Rattle.lock.specs.declared.Reply.TheVariants.{Granted, Waits}
+use Rattle.task_set.specs.Sets.{tally}
+use Rattle.lock.specs.Words.{has}
 
 -- what a kind of lock is and does, as functions of a lock's meaning
 pub record LockModel (L : Type 0) : Type 1 where
@@ -22,30 +23,34 @@ pub record LockModel (L : Type 0) : Type 1 where
   pub fits : L → ℕ → Bool
   pub limit : L → ℕ → ℕ → ℕ
   pub allows : L → (ℕ → ℕ) → Bool
-  -- a request by a task for a mode
-  pub reply : L → ℕ → ℕ → Reply
+  -- a request by a task for a mode; none is its reply where it is declined
+  pub reply : L → ℕ → ℕ → Option Reply
   pub requested : L → ℕ → ℕ → L
   -- a completion by a task that holds: whom it grants, and whether it ends a turn
   pub completed : L → ℕ → L
   pub grants : L → ℕ → ℕ → Bool
   pub ends : L → ℕ → Bool
 
--- what a completion answers: declined, or the granted and whether a turn ended
-pub data Outcome : Type 0 where
-  refused : Outcome
-  took : (ℕ → Bool) → Bool → Outcome
+-- what a completion that is not declined comes to: whom it grants, and whether a turn ended
+pub record Outcome : Type 0 where
+  pub granted : ℕ → Bool
+  pub ends_turn : Bool
+
+-- the answer of such a completion
+abbrev pub took : (ℕ → Bool) → Bool → Option Outcome
+took granted ends = Some (record { granted = granted; ends_turn = ends })
 
 -- whether a reply grants
-abbrev pub is_granted : Reply → Bool
-is_granted Granted = true
-is_granted Waits = false
-is_granted Declined = false
+abbrev pub is_granted : Option Reply → Bool
+is_granted (Some Granted) = true
+is_granted (Some Waits) = false
+is_granted None = false
 
 -- whether a reply makes wait
-abbrev pub is_waits : Reply → Bool
-is_waits Granted = false
-is_waits Waits = true
-is_waits Declined = false
+abbrev pub is_waits : Option Reply → Bool
+is_waits (Some Granted) = false
+is_waits (Some Waits) = true
+is_waits None = false
 
 module _ {L : Type 0} (K : LockModel L) where
   -- who waits
@@ -64,9 +69,9 @@ module _ {L : Type 0} (K : LockModel L) where
   abbrev pub holding : L → ℕ → ℕ
   holding l m = tally 64 (λ u. K.holds l u && K.mode l u == m)
 
-  -- what a completion answers
-  abbrev pub outcome : L → ℕ → Outcome
-  outcome l t = cond (K.holds l t) (took (K.grants l t) (K.ends l t)) refused
+  -- what a completion answers: none where its task does not hold
+  abbrev pub outcome : L → ℕ → Option Outcome
+  outcome l t = cond (K.holds l t) (took (K.grants l t) (K.ends l t)) None
 
 -- a lock of a kind that is known, if its count is fit
 abbrev pub started : {L : Type 0} → Bool → Bool → L → Result L Refusal

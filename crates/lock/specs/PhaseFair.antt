@@ -1,8 +1,9 @@
 -- A phase-fair reader-writer lock: mode 1 reads, mode 2 writes.
-use Rattle.std.specs.Prelude.{◌≡◌, ℕ, ◌+◌, ◌*◌, Bool, true, false, cond, not, ◌&&◌, ◌||◌, List, [], ◌∷◌, ◌++◌, length, ◌==◌, nat_lt}
+use Rattle.std.specs.Prelude.{◌≡◌, ℕ, ◌+◌, ◌*◌, Bool, true, false, cond, not, ◌&&◌, ◌||◌, List, [], ◌∷◌, ◌++◌, length, Some, None, ◌==◌, nat_lt}
 use Rattle.lock.specs.declared.Reply.{Reply}
-use Rattle.lock.specs.declared.Reply.TheVariants.{Granted, Waits, Declined}
-use Rattle.lock.specs.Words.{first, has, distinct, index, someone, upto, nobody, only, plus, less}
+use Rattle.lock.specs.declared.Reply.TheVariants.{Granted, Waits}
+use Rattle.task_set.specs.Sets.{someone, upto, nobody, only, plus, less}
+use Rattle.lock.specs.Words.{first, has, distinct, index}
 use Rattle.lock.specs.Model.{LockModel, started}
 
 -- nobody holds, a set of readers does, or a writer
@@ -49,9 +50,13 @@ wrote (writing w) u = w == u
 abbrev pub mode_in : Phase → List ℕ → ℕ → ℕ
 mode_in ph ws u = cond (wrote ph u || has ws u) 2 1
 
+-- whether a task may join: it is one, there is room for it, and it neither holds nor waits
+abbrev pub rw_room : Rw → ℕ → Bool
+rw_room l t = nat_lt t 64 && (nat_lt (length l.writers) 64 && not (holds_in l.phase t || (has l.writers t || l.readers t)))
+
 -- whether a request is not declined
 abbrev pub rw_admits : Rw → ℕ → ℕ → Bool
-rw_admits l t m = (m == 1 || m == 2) && (nat_lt t 64 && (nat_lt (length l.writers) 64 && not (holds_in l.phase t || (has l.writers t || l.readers t))))
+rw_admits l t m = (m == 1 || m == 2) && rw_room l t
 
 -- the lock after a request of t that is not declined, by its phase: the flag says that it reads
 abbrev pub asked_in : Phase → List ℕ → (ℕ → Bool) → ℕ → Bool → Rw
@@ -124,7 +129,7 @@ rw = record {
   fits = λ l m. (m == 1) || (m == 2);
   limit = λ l m o. cond (m == 1) 2 (2 * o + 1);
   allows = λ l c. (c 2 == 0) || (c 2 == 1 && c 1 == 0);
-  reply = λ l t m. cond (rw_admits l t m) (reply_in l.phase l.writers (m == 1)) Declined;
+  reply = λ l t m. cond (rw_admits l t m) (Some (reply_in l.phase l.writers (m == 1))) None;
   requested = λ l t m. cond (rw_admits l t m) (asked_in l.phase l.writers l.readers t (m == 1)) l;
   completed = λ l t. cond (holds_in l.phase t) (ended_in l.phase l.writers l.readers t) l;
   grants = λ l t u. grants_in l.phase l.writers l.readers t u;

@@ -1,9 +1,10 @@
 -- The rules of each kind, over who holds, who waits and what they asked for.
-use Rattle.std.specs.Prelude.{◌≡◌, ℕ, suc, ◌+◌, ◌-◌, ◌*◌, Bool, true, cond, not, ◌&&◌, [], ◌∷◌, ◌++◌, drop, Ok, Err, Result, ◌==◌, ◌≢◌, nat_le, nat_lt}
+use Rattle.std.specs.Prelude.{◌≡◌, ℕ, suc, ◌+◌, ◌-◌, ◌*◌, Bool, true, cond, not, ◌&&◌, [], ◌∷◌, ◌++◌, drop, Some, None, Ok, Err, Result, ◌==◌, ◌≢◌, nat_le, nat_lt}
 use Rattle.lock.specs.declared.Refusal.{Refusal}
 use Rattle.lock.specs.declared.Refusal.TheVariants.{NoSuchKind, CountUnfit}
-use Rattle.lock.specs.declared.Reply.TheVariants.{Waits, Declined}
-use Rattle.lock.specs.Words.{tally, someone, upto, has, index, first, less}
+use Rattle.lock.specs.declared.Reply.TheVariants.{Waits}
+use Rattle.task_set.specs.Sets.{tally, someone, upto, less}
+use Rattle.lock.specs.Words.{has, index, first}
 use Rattle.lock.specs.Model.{is_granted, queued, member}
 use Rattle.lock.specs.Fifo.{Fifo, FifoSound, fifo, fifo_empty, mutex, replicas}
 use Rattle.lock.specs.PhaseFair.{Rw, RwSound, rw, rw_empty}
@@ -12,9 +13,9 @@ use Rattle.lock.specs.Kinds.{Any, one, two, any}
 -- mutex and replicas, with k places, whatever they are set up by
 pub record FifoRules (start : ℕ → ℕ → ℕ → Result Fifo Refusal) : Type 0 where
   -- a request is granted at issue exactly if fewer than k hold
-  pub at_issue : (l : Fifo) (t m : ℕ) → FifoSound l → ((fifo start).reply l t m ≢ Declined) → is_granted ((fifo start).reply l t m) ≡ nat_lt (tally 64 ((fifo start).holds l)) l.places
+  pub at_issue : (l : Fifo) (t m : ℕ) → FifoSound l → ((fifo start).reply l t m ≢ None) → is_granted ((fifo start).reply l t m) ≡ nat_lt (tally 64 ((fifo start).holds l)) l.places
   -- waiting is by issue
-  pub by_issue : (l : Fifo) (t m : ℕ) → (fifo start).reply l t m ≡ Waits → (fifo start).list ((fifo start).requested l t m) ≡ (fifo start).list l ++ (t ∷ [])
+  pub by_issue : (l : Fifo) (t m : ℕ) → (fifo start).reply l t m ≡ Some Waits → (fifo start).list ((fifo start).requested l t m) ≡ (fifo start).list l ++ (t ∷ [])
   -- every completion ends a turn and grants the first waiter, who leaves the list
   pub turn_ends : (l : Fifo) (t : ℕ) → (fifo start).ends l t ≡ true
   pub grants_first : (l : Fifo) (t u : ℕ) → (fifo start).grants l t u ≡ first ((fifo start).list l) u
@@ -50,14 +51,14 @@ pub record RwRules : Type 0 where
   pub waiting_writers : (l : Rw) (u : ℕ) → RwSound l → has l.writers u ≡ (queued rw l u && rw.mode l u == 2)
   pub waiting_readers : (l : Rw) (u : ℕ) → RwSound l → l.readers u ≡ (queued rw l u && rw.mode l u == 1)
   -- writers wait by issue: a newcomer is last, no other request moves them, and a completion takes the first out if it grants a writer
-  pub writers_by_issue : (l : Rw) (t : ℕ) → rw.reply l t 2 ≡ Waits → (rw.requested l t 2).writers ≡ l.writers ++ (t ∷ [])
-  pub row_stays : (l : Rw) (t m : ℕ) → (rw.reply l t m ≡ Waits → m ≢ 2) → (rw.requested l t m).writers ≡ l.writers
+  pub writers_by_issue : (l : Rw) (t : ℕ) → rw.reply l t 2 ≡ Some Waits → (rw.requested l t 2).writers ≡ l.writers ++ (t ∷ [])
+  pub row_stays : (l : Rw) (t m : ℕ) → (rw.reply l t m ≡ Some Waits → m ≢ 2) → (rw.requested l t m).writers ≡ l.writers
   pub moves_up : (l : Rw) (t : ℕ) → RwSound l → rw.holds l t ≡ true → (rw.completed l t).writers ≡ cond (someone 64 (λ u. has l.writers u && rw.grants l t u)) (drop 1 l.writers) l.writers
   -- the list shows writers by issue, then readers by task number
   pub shown : (l : Rw) → rw.list l ≡ l.writers ++ upto 64 l.readers
   -- a read is granted at issue exactly if no writer holds or waits, a write exactly if nobody holds
-  pub read_at_issue : (l : Rw) (t : ℕ) → RwSound l → (rw.reply l t 1 ≢ Declined) → is_granted (rw.reply l t 1) ≡ not (someone 64 (λ u. member rw l u && rw.mode l u == 2))
-  pub write_at_issue : (l : Rw) (t : ℕ) → RwSound l → (rw.reply l t 2 ≢ Declined) → is_granted (rw.reply l t 2) ≡ not (someone 64 (rw.holds l))
+  pub read_at_issue : (l : Rw) (t : ℕ) → RwSound l → (rw.reply l t 1 ≢ None) → is_granted (rw.reply l t 1) ≡ not (someone 64 (λ u. member rw l u && rw.mode l u == 2))
+  pub write_at_issue : (l : Rw) (t : ℕ) → RwSound l → (rw.reply l t 2 ≢ None) → is_granted (rw.reply l t 2) ≡ not (someone 64 (rw.holds l))
   -- a turn ends when the last holder completes
   pub turn_ends : (l : Rw) (t : ℕ) → RwSound l → rw.holds l t ≡ true → rw.ends l t ≡ not (someone 64 (less (rw.holds l) t))
   -- when the last reader completes, the longest-waiting writer is granted

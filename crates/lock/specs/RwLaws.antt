@@ -1,18 +1,24 @@
 -- A phase-fair reader-writer lock keeps the laws of locks
-use Rattle.std.specs.Prelude.{◌≡◌, ℕ, zero, suc, ◌+◌, ◌*◌, ◌<◌, ◌≤◌, Bool, true, false, cond, not, ◌&&◌, ◌||◌, List, [], ◌∷◌, ◌++◌, length, Ok, ◌==◌, ◌≢◌, nat_eq, nat_lt, refl}
+use Rattle.std.specs.Prelude.{◌≡◌, ℕ, zero, suc, ◌+◌, ◌*◌, ◌<◌, ◌≤◌, Bool, true, false, cond, not, ◌&&◌, ◌||◌, List, [], ◌∷◌, ◌++◌, length, Some, None, Option, Ok, ◌==◌, ◌≢◌, nat_eq, nat_lt, refl}
 use Rattle.std.proofs.Common.{sym, ap, ◌∙◌, subst, ⊎_elim, arith}
 use Rattle.std.proofs.lemmas.Bool.{cases_Bool, both_ways, false≢true, true≢false, and_from, or_left, or_right, eq-eqb, eqb-true, cond-true, cond-false}
 use Rattle.std.proofs.lemmas.Bool.Decides.{nat_tests}
+use Rattle.std.proofs.lemmas.List.Folds.{list_any-append}
 use Rattle.lock.specs.declared.Reply.{Reply}
-use Rattle.lock.specs.declared.Reply.TheVariants.{Granted, Waits, Declined}
-use Rattle.lock.specs.Words.{first, tally, has, distinct, index, someone, upto, nobody, less}
+use Rattle.lock.specs.declared.Reply.TheVariants.{Granted, Waits}
+use Rattle.task_set.specs.Sets.{tally, someone, upto, nobody, less}
+use Rattle.task_set.proofs.Passing.{tally-same, someone-at, someone-is}
+use Rattle.lock.specs.Words.{first, has, distinct, index}
 use Rattle.lock.specs.Model.{queued, member, holding, is_granted, is_waits}
 use Rattle.lock.specs.Laws.{Laws}
 use Rattle.lock.specs.PhaseFair.{Phase, idle, reading, writing, Rw, holds_in, wrote, mode_in, RestIn, RwSound, rw_admits, asked_in, reply_in, next_writer, ended_in, ends_in, grants_in, writer_turns, reader_turns, rw, rw_empty}
-use Rattle.lock.specs.Count.{tally-same, tally-none, tally-one}
-use Rattle.lock.specs.Steps.{mk}
+use Rattle.lock.specs.Count.{tally-none, tally-one}
 use Rattle.lock.specs.Starts.{starts, exact}
-use Rattle.lock.specs.Lists.{distinct_append, distinct-upto, else_false, has-snoc, index-snoc, index-last, distinct_snoc, distinct-rest, head_once, has-append, has-upto, someone-at, someone-is, members, tally-mono, room}
+use Rattle.lock.specs.Lists.{distinct_append, distinct-upto, else_false, has-snoc, index-snoc, index-last, distinct_snoc, distinct-rest, head_once, has-upto, members, tally-mono, room}
+
+-- a lock by its parts
+abbrev pub mk : Phase → List ℕ → (ℕ → Bool) → Rw
+mk ph ws rs = record { phase = ph; writers = ws; readers = rs }
 
 abbrev togo : Phase → List ℕ → ℕ → ℕ
 togo ph ws u = cond (has ws u) (writer_turns ph (index ws u)) (reader_turns ph)
@@ -21,7 +27,7 @@ nil_not : (x : ℕ) (xs : List ℕ) → (x ∷ xs) ≢ []
 nil_not x xs e = let z : ◌≡◌ {A = ℕ} 0 1 = cc in omega arith
 
 pub q : (l : Rw) (u : ℕ) → RwSound l → queued rw l u ≡ (has l.writers u || l.readers u)
-q l u g = has-append l.writers (upto 64 l.readers) u ∙ ap (λ b. has l.writers u || b) (has-upto 64 l.readers u) ∙ (let e = g.each u in grind (arith, nat_tests))
+q l u g = list_any-append (λ x. x == u) l.writers (upto 64 l.readers) ∙ ap (λ b. has l.writers u || b) (has-upto 64 l.readers u) ∙ (let e = g.each u in grind (arith, nat_tests))
 
 pub small : (l : Rw) (u : ℕ) → RwSound l → (holds_in l.phase u || (has l.writers u || l.readers u)) ≡ true → u < 64
 small l u g h = let e = g.each u in grind (arith, nat_tests)
@@ -48,10 +54,10 @@ exclusive (writing w) ws rs g =
     or_right _ _ (and_from _ _ (eq-eqb _ 1 (tally-one 64 w (λ u. (w == u) && mode_in (writing w) ws u == 2) lt (λ u. grind (arith, nat_tests)))) (eq-eqb _ 0 (tally-none 64 (λ u. (w == u) && mode_in (writing w) ws u == 1) (λ u _. grind (arith, nat_tests)))))
 
 -- a request, by what is admitted
-pub by_request : (l : Rw) (t m : ℕ) (P : Rw → Reply → Type 0) → (rw_admits l t m ≡ true → P (asked_in l.phase l.writers l.readers t (m == 1)) (reply_in l.phase l.writers (m == 1))) → P l Declined → P (rw.requested l t m) (rw.reply l t m)
+pub by_request : (l : Rw) (t m : ℕ) (P : Rw → Option Reply → Type 0) → (rw_admits l t m ≡ true → P (asked_in l.phase l.writers l.readers t (m == 1)) (Some (reply_in l.phase l.writers (m == 1)))) → P l None → P (rw.requested l t m) (rw.reply l t m)
 by_request l t m P yes-case no-case = go (rw_admits l t m) refl
   where
-    go : (b : Bool) → rw_admits l t m ≡ b → P (cond b (asked_in l.phase l.writers l.readers t (m == 1)) l) (cond b (reply_in l.phase l.writers (m == 1)) Declined)
+    go : (b : Bool) → rw_admits l t m ≡ b → P (cond b (asked_in l.phase l.writers l.readers t (m == 1)) l) (cond b (Some (reply_in l.phase l.writers (m == 1))) None)
     go true e = yes-case e
     go false e = no-case
 
@@ -84,7 +90,7 @@ module _ (rs : ℕ → Bool) (t : ℕ) where
     rest = tt;
   }
 
-  asked-holds : (ph : Phase) (ws : List ℕ) (r : Bool) (u : ℕ) → holds_in (asked_in ph ws rs t r).phase u ≡ (holds_in ph u || (t == u && is_granted (reply_in ph ws r)))
+  asked-holds : (ph : Phase) (ws : List ℕ) (r : Bool) (u : ℕ) → holds_in (asked_in ph ws rs t r).phase u ≡ (holds_in ph u || (t == u && is_granted (Some (reply_in ph ws r))))
   asked-holds idle ws true u = grind (arith, nat_tests)
   asked-holds idle ws false u = grind (arith, nat_tests)
   asked-holds (reading s) [] true u = grind (arith, nat_tests)
@@ -94,7 +100,7 @@ module _ (rs : ℕ → Bool) (t : ℕ) where
   asked-holds (writing x) ws true u = grind (arith, nat_tests)
   asked-holds (writing x) ws false u = grind (arith, nat_tests)
 
-  asked-queued : (ph : Phase) (ws : List ℕ) (r : Bool) (u : ℕ) → (has (asked_in ph ws rs t r).writers u || (asked_in ph ws rs t r).readers u) ≡ ((has ws u || rs u) || (t == u && is_waits (reply_in ph ws r)))
+  asked-queued : (ph : Phase) (ws : List ℕ) (r : Bool) (u : ℕ) → (has (asked_in ph ws rs t r).writers u || (asked_in ph ws rs t r).readers u) ≡ ((has ws u || rs u) || (t == u && is_waits (Some (reply_in ph ws r))))
   asked-queued idle ws true u = grind (arith, nat_tests)
   asked-queued idle ws false u = grind (arith, nat_tests)
   asked-queued (reading s) [] true u = grind (arith, nat_tests)
@@ -105,7 +111,7 @@ module _ (rs : ℕ → Bool) (t : ℕ) where
   asked-queued (writing x) ws false u = let a = has-snoc ws t u in grind (arith, nat_tests)
 
   -- nobody waits where a request is granted
-  asked-turn : (ph : Phase) (ws : List ℕ) (r : Bool) (u : ℕ) → RestIn ph ws rs → (has ws u || rs u) ≡ true → reply_in ph ws r ≢ Granted
+  asked-turn : (ph : Phase) (ws : List ℕ) (r : Bool) (u : ℕ) → RestIn ph ws rs → (has ws u || rs u) ≡ true → Some (reply_in ph ws r) ≢ Some Granted
   asked-turn idle ws r u k h e = both_ways (has ws u || rs u) (let a : has ws u ≡ false = ap (λ x. has x u) k.0 in let b = k.1 u in grind (arith, nat_tests)) h
   asked-turn (reading s) [] true u k h e = both_ways (rs u) (k.1 refl u) h
   asked-turn (reading s) (w ∷ ws) true u k h e = let z : ◌≡◌ {A = ℕ} 0 1 = cc in omega arith
@@ -135,7 +141,7 @@ module _ (rs : ℕ → Bool) (t : ℕ) where
   last_turns : (ph : Phase) (ws : List ℕ) → has ws t ≡ false → togo ph (ws ++ (t ∷ [])) t ≡ writer_turns ph (length ws)
   last_turns ph ws h = let a : has (ws ++ (t ∷ [])) t ≡ true = has-snoc ws t t ∙ or_right _ _ (eq-eqb t t refl) in cond-true _ _ _ a ∙ ap (writer_turns ph) (index-last ws t h)
 
-  asked-new : (ph : Phase) (ws : List ℕ) (r : Bool) (n : ℕ) → RwSound (mk ph ws rs) → free ph ws rs t ≡ true → ((u : ℕ) → n ≤ u → (holds_in ph u || (has ws u || rs u)) ≡ false) → reply_in ph ws r ≡ Waits →
+  asked-new : (ph : Phase) (ws : List ℕ) (r : Bool) (n : ℕ) → RwSound (mk ph ws rs) → free ph ws rs t ≡ true → ((u : ℕ) → n ≤ u → (holds_in ph u || (has ws u || rs u)) ≡ false) → Some (reply_in ph ws r) ≡ Some Waits →
       togo (asked_in ph ws rs t r).phase (asked_in ph ws rs t r).writers t ≤ cond r 2 (2 * tally n (λ u. holds_in ph u || (has ws u || rs u)) + 1)
   asked-new idle ws r n g f out e = let z : ◌≡◌ {A = ℕ} 0 1 = cc in absurd (omega arith)
   asked-new (reading s) [] true n g f out e = let z : ◌≡◌ {A = ℕ} 0 1 = cc in absurd (omega arith)
@@ -296,12 +302,12 @@ request_togo : (l : Rw) (t m u : ℕ) → RwSound l → queued rw l u ≡ true �
 request_togo l t m u g h = by_request l t m (λ x r. togo x.phase x.writers u ≤ togo l.phase l.writers u)
     (λ e. asked-togo l.readers t l.phase l.writers (m == 1) u g.rest (freed l t m e) (sym (q l u g) ∙ h)) (omega arith)
 
-request_turn : (l : Rw) (t m u : ℕ) → RwSound l → queued rw l u ≡ true → rw.reply l t m ≢ Granted
-request_turn l t m u g h = by_request l t m (λ x r. r ≢ Granted)
+request_turn : (l : Rw) (t m u : ℕ) → RwSound l → queued rw l u ≡ true → rw.reply l t m ≢ Some Granted
+request_turn l t m u g h = by_request l t m (λ x r. r ≢ Some Granted)
     (λ e. asked-turn l.readers t l.phase l.writers (m == 1) u g.rest (sym (q l u g) ∙ h)) (λ e. let z : ◌≡◌ {A = ℕ} 0 1 = cc in omega arith)
 
-newcomer : (l : Rw) (t m n : ℕ) → RwSound l → ((u : ℕ) → n ≤ u → member rw l u ≡ false) → rw.reply l t m ≡ Waits → rw.togo (rw.requested l t m) t ≤ rw.limit l m (tally n (member rw l))
-newcomer l t m n g out = by_request l t m (λ x r. r ≡ Waits → togo x.phase x.writers t ≤ rw.limit l m (tally n (member rw l)))
+newcomer : (l : Rw) (t m n : ℕ) → RwSound l → ((u : ℕ) → n ≤ u → member rw l u ≡ false) → rw.reply l t m ≡ Some Waits → rw.togo (rw.requested l t m) t ≤ rw.limit l m (tally n (member rw l))
+newcomer l t m n g out = by_request l t m (λ x r. r ≡ Some Waits → togo x.phase x.writers t ≤ rw.limit l m (tally n (member rw l)))
     (λ e y. subst (λ k. togo (asked_in l.phase l.writers l.readers t (m == 1)).phase (asked_in l.phase l.writers l.readers t (m == 1)).writers t ≤ cond (m == 1) 2 (2 * k + 1))
     (tally-same n _ _ (λ u _. sym (mem l u g)))
     (asked-new l.readers t l.phase l.writers (m == 1) n g (freed l t m e) (λ u k. sym (mem l u g) ∙ out u k) y))
@@ -320,29 +326,24 @@ turn_ends : (l : Rw) (t u : ℕ) → RwSound l → rw.holds l t ≡ true → rw.
 turn_ends l t u g h e y = subst (λ (x : Rw). togo x.phase x.writers u < togo l.phase l.writers u) (sym (after l t h))
     ((ended-turns l.readers t u l.phase l.writers h g).1 e (sym (ap (λ (x : Rw). has x.writers u || x.readers u) (after l t h)) ∙ sym (q (rw.completed l t) u (complete_good l t g)) ∙ y))
 
-reply-not : (l : Rw) (t m : ℕ) → rw_admits l t m ≡ false → rw.reply l t m ≡ Declined
+reply-not : (l : Rw) (t m : ℕ) → rw_admits l t m ≡ false → rw.reply l t m ≡ None
 reply-not l t m e = cond-false _ _ _ e
 
-reply-some : (ph : Phase) (ws : List ℕ) (r : Bool) → reply_in ph ws r ≢ Declined
-reply-some idle ws r e = let z : ◌≡◌ {A = ℕ} 0 1 = cc in omega arith
-reply-some (reading s) [] true e = let z : ◌≡◌ {A = ℕ} 0 1 = cc in omega arith
-reply-some (reading s) (w ∷ ws) true e = let z : ◌≡◌ {A = ℕ} 0 1 = cc in omega arith
-reply-some (reading s) [] false e = let z : ◌≡◌ {A = ℕ} 0 1 = cc in omega arith
-reply-some (reading s) (w ∷ ws) false e = let z : ◌≡◌ {A = ℕ} 0 1 = cc in omega arith
-reply-some (writing x) ws r e = let z : ◌≡◌ {A = ℕ} 0 1 = cc in omega arith
+reply-some : (r : Reply) → Some r ≢ None
+reply-some r e = let z : ◌≡◌ {A = ℕ} 0 1 = cc in omega arith
 
-taken : (l : Rw) (t m : ℕ) → RwSound l → t < 64 → member rw l t ≡ false → rw.fits l m ≡ true → rw.reply l t m ≢ Declined
+taken : (l : Rw) (t m : ℕ) → RwSound l → t < 64 → member rw l t ≡ false → rw.fits l m ≡ true → rw.reply l t m ≢ None
 taken l t m g lt h f e =
     let a : (holds_in l.phase t || (has l.writers t || l.readers t)) ≡ false = sym (mem l t g) ∙ h in
     let r : length l.writers < 64 = room l.writers t g.once (λ u y. small l u g (or_right _ _ (or_left _ _ y))) lt (grind (arith, nat_tests)) in
     let k : rw_admits l t m ≡ true = grind (arith, nat_tests) in
-    reply-some l.phase l.writers (m == 1) (sym (cond-true _ _ _ k) ∙ e)
+    reply-some (reply_in l.phase l.writers (m == 1)) (sym (cond-true _ _ _ k) ∙ e)
 
 empty-good : RwSound rw_empty
 empty-good = record { once = refl; each = λ u. refl; rest = (refl, λ u. refl) }
 
-request_mode : (l : Rw) (t m : ℕ) → RwSound l → (rw.reply l t m ≢ Declined) → rw.mode (rw.requested l t m) t ≡ m
-request_mode l t m g = by_request l t m (λ x r. (r ≢ Declined) → mode_in x.phase x.writers t ≡ m)
+request_mode : (l : Rw) (t m : ℕ) → RwSound l → (rw.reply l t m ≢ None) → rw.mode (rw.requested l t m) t ≡ m
+request_mode l t m g = by_request l t m (λ x r. (r ≢ None) → mode_in x.phase x.writers t ≡ m)
     (λ e h. asked-mode l.readers t l.phase l.writers (m == 1) (freed l t m e) ∙ grind (arith, nat_tests))
     (λ h. absurd (h refl))
 
@@ -412,7 +413,7 @@ rw-lawful = record {
   unfit = λ l t m h. reply-not l t m (grind (arith, nat_tests));
   above = λ l t m h. reply-not l t m (grind (arith, nat_tests));
   taken = taken;
-  request_declined = λ l t m. by_request l t m (λ x r. r ≡ Declined → x ≡ l) (λ e y. absurd (reply-some l.phase l.writers (m == 1) y)) (λ y. refl);
+  request_declined = λ l t m. by_request l t m (λ x r. r ≡ None → x ≡ l) (λ e y. absurd (reply-some (reply_in l.phase l.writers (m == 1)) y)) (λ y. refl);
   complete_declined = λ l t h. cond-false _ _ _ h;
   request_limit = λ l t m mode o. refl;
   complete_limit = λ l t mode o. refl;

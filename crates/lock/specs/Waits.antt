@@ -1,15 +1,20 @@
 -- Lists of requests and completions of one lock, and how long a request waits in them.
-use Rattle.std.specs.Prelude.{◌≡◌, ℕ, ◌+◌, ◌<◌, ◌≤◌, Bool, true, false, cond, ◌&&◌, List, [], ◌∷◌, Ok}
+use Rattle.std.specs.Prelude.{◌≡◌, ℕ, ◌+◌, ◌<◌, ◌≤◌, Bool, true, false, cond, ◌&&◌, List, [], ◌∷◌, Some, None, Option, Ok}
 use Rattle.lock.specs.declared.Reply.TheVariants.{Granted, Waits}
 use Rattle.lock.specs.declared.Step.{Step}
 use Rattle.lock.specs.declared.Step.TheVariants.{Request, Completion}
-use Rattle.lock.specs.Model.{LockModel, queued, crowd}
+use Rattle.lock.specs.Model.{LockModel, Outcome, outcome, queued, crowd}
 
 module _ {L : Type 0} (K : LockModel L) where
   -- the lock after a step
   abbrev pub after : L → Step → L
   after l (Request t m) = K.requested l t m
   after l (Completion t) = K.completed l t
+
+  -- what a step answers as a completion does
+  abbrev pub step_outcome : L → Step → Option Outcome
+  step_outcome l (Request t m) = None
+  step_outcome l (Completion t) = outcome K l t
 
   -- whether a step ends a turn
   abbrev pub ends_turn : L → Step → Bool
@@ -34,11 +39,11 @@ module _ {L : Type 0} (K : LockModel L) where
   -- after set-up and any steps, of a request that waits: the turns that end from its issue to its grant are at most its limit for the number that held or waited before it
   abbrev pub WaitsBounded : Type 0
   WaitsBounded = (kind k m t mode : ℕ) (l : L) (before later : List Step) → K.start kind k m ≡ Ok l
-      → K.reply (after_all l before) t mode ≡ Waits
+      → K.reply (after_all l before) t mode ≡ Some Waits
       → turns_to_grant (K.requested (after_all l before) t mode) t later ≤ K.limit l mode (crowd K (after_all l before))
 
   -- nobody waits in vain: of an empty lock every fit request is granted, and where somebody waits, the completion of the last holder ends a turn and grants someone
   pub record Live : Type 0 where
-    pub first_granted : (kind k m t mode : ℕ) (l : L) → K.start kind k m ≡ Ok l → t < 64 → K.fits l mode ≡ true → K.reply l t mode ≡ Granted
+    pub first_granted : (kind k m t mode : ℕ) (l : L) → K.start kind k m ≡ Ok l → t < 64 → K.fits l mode ≡ true → K.reply l t mode ≡ Some Granted
     pub last_ends : (l : L) (t u : ℕ) → K.sound l → K.holds l t ≡ true → ((v : ℕ) → K.holds l v ≡ true → v ≡ t) → queued K l u ≡ true → K.ends l t ≡ true
     pub last_grants : (l : L) (t u : ℕ) → K.sound l → K.holds l t ≡ true → ((v : ℕ) → K.holds l v ≡ true → v ≡ t) → queued K l u ≡ true → (v : ℕ) × (K.grants l t v ≡ true)

@@ -1,12 +1,17 @@
 // A plain value that is a lock of any kind.
 ghost use Rattle.std.specs.Prelude.{◌≤◌};
-ghost use Rattle.lock.specs.Kinds.{Any, any as AnyModel};
-ghost use Rattle.lock.specs.Views.{any_view as AnyView};
+ghost use Rattle.lock.specs.Kinds.{Any, any};
+ghost use Rattle.lock.specs.Views.{any_view};
 ghost use Rattle.lock.specs.SumLaws.{any-lawful};
 
+use super::kind::Kind;
 use super::places::{Mutex, Replicas};
 use super::reader_writer::ReaderWriter;
-use super::{Lock, Outcome, Refusal, Reply};
+use super::{Completion, Lock, Refusal, Reply};
+use task_set::TaskSet;
+
+// Each call is passed on by a match and not by a `dyn`: a lock value is plain, it is copied out,
+// called and stored back, and there is no heap to box it in.
 
 /// A lock of kind 1, 2 or 3.
 #[derive(Clone, Copy)]
@@ -26,26 +31,19 @@ pub fn largest() -> usize
 impl Lock for AnyLock {
     ghost Model = { Any };
 
-    ghost view = { AnyView };
+    ghost view = { any_view };
 
-    ghost model = { AnyModel };
+    ghost model = { any };
 
     ghost lawful = { any-lawful };
 
-    fn set_up(kind: u8, k: u8, m: u8) -> Result<AnyLock, Refusal> {
-        match kind {
-            1 => match Mutex::set_up(kind, k, m) {
-                Ok(lock) => Ok(AnyLock::Mutex(lock)),
-                Err(e) => Err(e),
-            },
-            2 => match ReaderWriter::set_up(kind, k, m) {
-                Ok(lock) => Ok(AnyLock::ReaderWriter(lock)),
-                Err(e) => Err(e),
-            },
-            _ => match Replicas::set_up(kind, k, m) {
-                Ok(lock) => Ok(AnyLock::Replicas(lock)),
-                Err(e) => Err(e),
-            },
+    fn set_up(kind: u8, count: u8, processors: u8) -> Result<AnyLock, Refusal> {
+        match Kind::try_from(kind)? {
+            Kind::Mutex => Mutex::set_up(kind, count, processors).map(AnyLock::Mutex),
+            Kind::ReaderWriter => {
+                ReaderWriter::set_up(kind, count, processors).map(AnyLock::ReaderWriter)
+            }
+            Kind::Replicas => Replicas::set_up(kind, count, processors).map(AnyLock::Replicas),
         }
     }
 
@@ -57,7 +55,7 @@ impl Lock for AnyLock {
         }
     }
 
-    fn request(&mut self, task: u8, mode: u8) -> Reply {
+    fn request(&mut self, task: u8, mode: u8) -> Option<Reply> {
         match self {
             AnyLock::Mutex(lock) => lock.request(task, mode),
             AnyLock::ReaderWriter(lock) => lock.request(task, mode),
@@ -65,7 +63,7 @@ impl Lock for AnyLock {
         }
     }
 
-    fn complete(&mut self, task: u8) -> Outcome {
+    fn complete(&mut self, task: u8) -> Option<Completion> {
         match self {
             AnyLock::Mutex(lock) => lock.complete(task),
             AnyLock::ReaderWriter(lock) => lock.complete(task),
@@ -73,7 +71,7 @@ impl Lock for AnyLock {
         }
     }
 
-    fn holders(&self) -> u64 {
+    fn holders(&self) -> TaskSet {
         match self {
             AnyLock::Mutex(lock) => lock.holders(),
             AnyLock::ReaderWriter(lock) => lock.holders(),

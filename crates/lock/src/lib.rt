@@ -2,26 +2,30 @@
 // them.
 #![tactic(auto)]
 
-ghost use Rattle.std.specs.Prelude.{◌≡◌, ◌≤◌, not, ◌&&◌, if◌then◌else◌};
-ghost use Rattle.lock.specs.Words.{tasks as TasksOf};
-ghost use Rattle.lock.specs.Numbers.{refusal_number as RefusalNumber};
-ghost use Rattle.lock.specs.Model.{LockModel, outcome as OutcomeIn, crowd, made_of as MadeOf, written, count_of as CountOf};
+ghost use Rattle.std.specs.Prelude.{◌≡◌, ◌≤◌, true};
+ghost use Rattle.task_set.specs.Sets.{bits, tasks};
+ghost use Rattle.lock.specs.Numbers.{refusal_number};
+ghost use Rattle.lock.specs.Model.{LockModel, outcome, took, crowd, made_of, written, count_of};
 ghost use Rattle.lock.specs.Laws.{Laws};
-ghost use Rattle.lock.specs.Waits.{after, ends_turn as EndsTurn, grants_to as GrantsTo, after_all as AfterAll, turns_to_grant as TurnsToGrant, WaitsBounded, Live};
-ghost use Rattle.lock.specs.Views.{bits, outcome_of as OutcomeOf};
+ghost use Rattle.lock.specs.Waits.{after, step_outcome, after_all, turns_to_grant as turns_until, WaitsBounded, Live};
+ghost use Rattle.lock.specs.Views.{outcome_of};
 ghost use Rattle.lock.specs.Rules.{Rules};
 ghost use Rattle.lock.specs.Examples.{ExamplesHold};
 
 mod any;
+mod kind;
 mod places;
+mod queue;
 mod reader_writer;
-mod sets;
+mod row;
 #[cfg(test)]
 mod tests;
 
 pub use any::{AnyLock, largest};
+pub use kind::Kind;
 pub use places::{Mutex, Replicas};
 pub use reader_writer::ReaderWriter;
+use task_set::TaskSet;
 
 /// Why a call is turned away.
 #[derive(Clone, Copy, PartialEq, Eq, Debug)]
@@ -34,12 +38,11 @@ pub enum Refusal {
     BufferTooShort,
 }
 
-impl Refusal {
-    /// The number of the refusal.
-    pub fn number(self) -> u8
-        ensures { result ≡ RefusalNumber self }
-    {
-        match self {
+impl From<Refusal> for u8 {
+    ghost from_gives = { λ refusal number. number ≡ refusal_number refusal };
+
+    fn from(refusal: Refusal) -> u8 {
+        match refusal {
             Refusal::NoSuchKind => 7,
             Refusal::CountUnfit => 8,
             Refusal::BufferTooShort => 19,
@@ -47,35 +50,46 @@ impl Refusal {
     }
 }
 
-/// What a request is answered.
+/// What a request is answered that is not declined.
 #[derive(Clone, Copy, PartialEq, Eq, Debug)]
 pub enum Reply {
     Granted,
     Waits,
-    /// Nothing changed: the task holds or waits already or is above 63, or the mode does not fit.
-    Declined,
 }
 
-/// What a completion is answered.
+/// What a completion is answered that is not declined.
 #[derive(Clone, Copy, PartialEq, Eq, Debug)]
-pub enum Outcome {
-    /// Nothing changed: the task does not hold.
-    Declined,
-    /// The granted, bit t for task t, and whether a turn ended.
-    Done(u64, bool),
+pub struct Completion {
+    /// Whom it grants.
+    pub granted: TaskSet,
+    /// Whether a turn ended.
+    pub ends_turn: bool,
+}
+
+impl Completion {
+    // One that ends a turn.
+    fn ending(granted: TaskSet) -> Completion
+        ensures { outcome_of (Some result) ≡ took (bits granted.bits) true }
+    {
+        Completion {
+            granted,
+            ends_turn: true,
+        }
+    }
 }
 
 /// What changes a lock.
 #[derive(Clone, Copy, PartialEq, Eq, Debug)]
 pub enum Step {
     /// By a task, for a mode.
-    Request(u8, u8),
+    Request { task: u8, mode: u8 },
     /// By a task.
-    Completion(u8),
+    Completion { task: u8 },
 }
 
 /// A lock: tasks hold it or wait for it. The laws hold of every value that set-up and the lock's
-/// own steps make. From any other value each call still ends and does what its contract says.
+/// own steps make. From any other value of its type each call still ends and does what its contract
+/// says.
 pub trait Lock: Copy {
     ghost Model: { Type 0 };
 
@@ -83,86 +97,96 @@ pub trait Lock: Copy {
 
     ghost model: { LockModel Model };
 
-    /// An empty lock by its kind number and its count `k` for `m` processors.
-    fn set_up(kind: u8, k: u8, m: u8) -> Result<Self, Refusal>
-        ensures { MadeOf view result ≡ model.start kind k m };
+    /// An empty lock by its kind number and its count, for a number of processors.
+    // Numbers, since a caller has numbers: 7 and 8 answer those that are no kind or no fit count.
+    fn set_up(kind: u8, count: u8, processors: u8) -> Result<Self, Refusal>
+        ensures { made_of view result ≡ model.start kind count processors };
 
+    // A mode is a number: what it means is the kind's own.
     /// Whether a mode fits.
     fn fits(&self, mode: u8) -> bool
         ensures { result ≡ model.fits (view self.now) mode };
 
-    /// A request by a task for a mode.
-    fn request(&mut self, task: u8, mode: u8) -> Reply
+    /// A request by a task for a mode. It is declined, with no answer, where the task holds or
+    /// waits already or is above 63, or the mode does not fit; then nothing changes.
+    fn request(&mut self, task: u8, mode: u8) -> Option<Reply>
         ensures after { view self.new ≡ model.requested (view self.old) task mode }
         ensures reply { result ≡ model.reply (view self.old) task mode };
 
-    /// A completion by a task.
-    fn complete(&mut self, task: u8) -> Outcome
+    /// A completion by a task. It is declined, with no answer, where the task does not hold; then
+    /// nothing changes.
+    fn complete(&mut self, task: u8) -> Option<Completion>
         ensures after { view self.new ≡ model.completed (view self.old) task }
-        ensures outcome { OutcomeOf result ≡ OutcomeIn model (view self.old) task };
+        ensures outcome { outcome_of result ≡ outcome model (view self.old) task };
 
-    /// Who holds: bit t for task t.
-    fn holders(&self) -> u64
-        ensures { bits result ≡ TasksOf (model.holds (view self.now)) };
+    /// Who holds.
+    fn holders(&self) -> TaskSet
+        ensures { bits result.bits ≡ tasks (model.holds (view self.now)) };
 
     /// Writes the waiting, in the lock's own order, to the front of `buffer`, and answers how many
     /// they are. A buffer that is too short stays as it was.
     fn waiting(&self, buffer: &mut [u8]) -> Result<usize, Refusal>
-        ensures count { result ≡ CountOf (model.list (view self.now)) buffer.old }
+        ensures count { result ≡ count_of (model.list (view self.now)) buffer.old }
         ensures writes { buffer.new ≡ written (model.list (view self.now)) buffer.old };
 
     ghost lawful: { Laws model };
 }
 
-// Takes one step: whether it ended a turn, and whether it granted the task.
-fn advance<L: Lock>(lock: &mut L, step: Step, task: u8) -> (bool, bool)
+// Takes one step, and answers as a completion does: nothing for a request.
+fn advance<L: Lock>(lock: &mut L, step: Step) -> Option<Completion>
     ensures after { L.view lock.new ≡ after L.model (L.view lock.old) step }
-    ensures ended { result.0 ≡ EndsTurn L.model (L.view lock.old) step }
-    ensures granted { result.1 ≡ GrantsTo L.model (L.view lock.old) task step }
+    ensures outcome { outcome_of result ≡ step_outcome L.model (L.view lock.old) step }
 {
     match step {
-        Step::Request(t, mode) => {
-            let _reply = lock.request(t, mode);
-            (false, false)
+        Step::Request { task, mode } => {
+            let _reply = lock.request(task, mode);
+            None
         }
-        Step::Completion(t) => match lock.complete(t) {
-            Outcome::Declined => (false, false),
-            Outcome::Done(set, ended) => (ended, sets::includes(set, task)),
-        },
+        Step::Completion { task } => lock.complete(task),
     }
 }
 
-// What a step adds to the turns of a wait, and whether the wait goes on.
-fn counted(waiting: bool, ended: bool, granted: bool) -> (usize, bool)
-    ensures turns { result.0 ≡ (if waiting then (if ended then 1 else 0) else 0) }
-    ensures on { result.1 ≡ (waiting && not granted) }
+// Takes the steps of a list.
+fn advance_all<L: Lock>(lock: &mut L, steps: &[Step])
+    ensures { L.view lock.new ≡ after_all L.model (L.view lock.old) steps.now }
 {
-    if waiting {
-        (if ended { 1 } else { 0 }, !granted)
-    } else {
-        (0, false)
+    for step in steps {
+        let _completion = advance(lock, *step);
     }
+}
+
+// Takes the steps of a list, and counts the turns that end up to the one that grants a task.
+fn turns_of<L: Lock>(lock: &mut L, task: u8, steps: &[Step]) -> usize
+    ensures after { L.view lock.new ≡ after_all L.model (L.view lock.old) steps.now }
+    ensures turns { result ≡ turns_until L.model (L.view lock.old) task steps.now }
+{
+    let mut turns = 0;
+    for (i, step) in steps.iter().enumerate() {
+        let Some(completion) = advance(lock, *step) else {
+            continue;
+        };
+        if completion.ends_turn {
+            turns += 1;
+        }
+        if completion.granted.contains(task) {
+            advance_all(lock, &steps[i + 1..]);
+            break;
+        }
+    }
+    turns
 }
 
 /// Makes a request and then the steps of a list, and counts the turns that end from the request to
 /// its grant.
 pub fn turns_to_grant<L: Lock>(lock: &mut L, task: u8, mode: u8, steps: &[Step]) -> usize
-    ensures after { L.view lock.new ≡ AfterAll L.model (L.model.requested (L.view lock.old) task mode) steps.now }
-    ensures turns { result ≡ TurnsToGrant L.model (L.model.requested (L.view lock.old) task mode) task steps.now }
-    ensures bound { L.model.sound (L.view lock.old) → L.model.reply (L.view lock.old) task mode ≡ Reply.Waits → result ≤ L.model.limit (L.view lock.old) mode (crowd L.model (L.view lock.old)) }
+    ensures after { L.view lock.new ≡ after_all L.model (L.model.requested (L.view lock.old) task mode) steps.now }
+    ensures turns { result ≡ turns_until L.model (L.model.requested (L.view lock.old) task mode) task steps.now }
+    ensures bound { L.model.sound (L.view lock.old) → L.model.reply (L.view lock.old) task mode ≡ Some Reply.Waits → result ≤ L.model.limit (L.view lock.old) mode (crowd L.model (L.view lock.old)) }
     ensures always { WaitsBounded L.model }
     ensures live { Live L.model }
 {
     let _reply = lock.request(task, mode);
-    let mut turns = 0;
-    let mut waiting = true;
-    for step in steps {
-        let (ended, granted) = advance(lock, *step, task);
-        let (more, on) = counted(waiting, ended, granted);
-        turns += more;
-        waiting = on;
-    }
-    turns
+    turns_of(lock, task, steps)
 }
 
 /// The last kind number. The rules of the kinds 1 to this one hold, and the examples come out as

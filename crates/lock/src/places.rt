@@ -1,261 +1,153 @@
-// Places in a row: a queue whose first hold and whose others wait, by issue. Mutex and replicas are
-// this queue, with one place and with several.
-ghost use Rattle.std.specs.Prelude.{◌≡◌, suc, ◌<◌, ◌≤◌, true, [], ◌∷◌, ◌++◌, length, take, drop, ◌==◌, slice_index};
-ghost use Rattle.lock.specs.Words.{has, index, tasks as TasksOf};
-ghost use Rattle.lock.specs.Model.{count_of as CountOf, written, outcome as OutcomeIn};
-ghost use Rattle.lock.specs.Fifo.{Fifo, mutex as MutexModel, replicas as ReplicasModel};
-ghost use Rattle.lock.specs.Views.{bits, row as RowOf, placed, outcome_of as OutcomeOf, mutex_view as MutexView, replicas_view as ReplicasView};
-ghost use Rattle.lock.specs.FifoLaws.{mutex-lawful, replicas-lawful};
+// Places in a row: the first in a queue hold, and the others wait, by issue. Mutex and replicas are
+// this row, with one place and with several.
+ghost use Rattle.std.specs.Prelude.{◌≡◌, ℕ, Result};
+ghost use Rattle.lock.specs.declared.Refusal.{Refusal};
+ghost use Rattle.lock.specs.Model.{made_of};
+ghost use Rattle.lock.specs.Fifo.{Fifo, fifo, fifo_empty, mutex, replicas, Begins};
+ghost use Rattle.lock.specs.Views.{row_view};
+ghost use Rattle.lock.specs.FifoLaws.{fifo-lawful, mutex-begins, replicas-begins};
 
-use super::sets::{masked, set_of};
-use super::{Lock, Outcome, Refusal, Reply};
+use super::kind::Kind;
+use super::queue::Queue;
+use super::row::{place_in, set_of, set_of_first};
+use super::{Completion, Lock, Refusal, Reply};
+use task_set::TaskSet;
 
-// Tasks in a row, at most 64.
+/// How many places a row has, and how it is set up.
+pub trait Places: Copy {
+    ghost start: { ℕ → ℕ → ℕ → Result Fifo Refusal };
+
+    ghost places: { Self → ℕ };
+
+    /// The places by a kind number and a count, for a number of processors.
+    fn set_up(kind: u8, count: u8, processors: u8) -> Result<Self, Refusal>
+        ensures { made_of (λ p. fifo_empty (places p)) result ≡ start kind count processors };
+
+    /// How many there are.
+    fn count(self) -> u8
+        ensures { result ≡ places self };
+
+    ghost begins: { Begins start };
+}
+
+/// The place of a mutex.
 #[derive(Clone, Copy)]
-pub(crate) struct Queue {
-    items: [u8; 64],
-    len: u8,
+pub struct OnePlace;
+
+impl Places for OnePlace {
+    ghost start = { mutex.start };
+
+    ghost places = { λ _. 1 };
+
+    ghost begins = { mutex-begins };
+
+    fn set_up(kind: u8, count: u8, _processors: u8) -> Result<OnePlace, Refusal> {
+        match Kind::try_from(kind)? {
+            Kind::Mutex if count == 0 => Ok(OnePlace),
+            Kind::Mutex => Err(Refusal::CountUnfit),
+            Kind::ReaderWriter | Kind::Replicas => Err(Refusal::NoSuchKind),
+        }
+    }
+
+    fn count(self) -> u8 {
+        1
+    }
 }
 
-// The place of a task in a row, or the row's length.
-fn place_in(row: &[u8], task: u8) -> usize
-    ensures is { result ≡ index row.now task }
-    ensures within { result ≤ length row.now }
-{
-    for (i, x) in row.iter().enumerate() {
-        if *x == task {
-            return i;
-        }
-    }
-    row.len()
+/// A place for each replica.
+#[derive(Clone, Copy)]
+pub struct PlacePerReplica {
+    replicas: u8,
 }
 
-// Whether a mode is the one that places in a row have.
-fn is_place_mode(mode: u8) -> bool
-    ensures { result ≡ (mode == 0) }
-{
-    mode == 0
+impl Places for PlacePerReplica {
+    ghost start = { replicas.start };
+
+    ghost places = { λ p. p.replicas };
+
+    ghost begins = { replicas-begins };
+
+    fn set_up(kind: u8, count: u8, processors: u8) -> Result<PlacePerReplica, Refusal> {
+        match Kind::try_from(kind)? {
+            Kind::Replicas if count < 1 || count > processors => Err(Refusal::CountUnfit),
+            Kind::Replicas => Ok(PlacePerReplica { replicas: count }),
+            Kind::Mutex | Kind::ReaderWriter => Err(Refusal::NoSuchKind),
+        }
+    }
+
+    fn count(self) -> u8 {
+        self.replicas
+    }
 }
 
-impl Queue {
-    // Nobody.
-    pub(crate) fn new() -> Queue
-        ensures { RowOf result ≡ [] }
-    {
-        Queue {
-            items: [0; 64],
-            len: 0,
-        }
-    }
-
-    // How many there are.
-    pub(crate) fn size(&self) -> usize
-        ensures count { result ≡ length (RowOf self.now) }
-        ensures most { result ≤ 64 }
-    {
-        self.len.min(64) as usize
-    }
-
-    // Those from one place to another.
-    pub(crate) fn part(&self, from: usize, to: usize) -> &[u8]
-        requires { (from ≤ to) × (to ≤ length (RowOf self.now)) }
-        ensures { result.now ≡ drop from (take to (RowOf self.now)) }
-    {
-        &self.items[from..to]
-    }
-
-    // Whether a task is in the row.
-    pub(crate) fn contains(&self, task: u8) -> bool
-        ensures { result ≡ has (RowOf self.now) task }
-    {
-        let n = self.size();
-        place_in(self.part(0, n), task) < n
-    }
-
-    // Puts a task behind the others.
-    pub(crate) fn push(&mut self, task: u8)
-        requires { length (RowOf self.old) < 64 }
-        ensures { RowOf self.new ≡ RowOf self.old ++ (task ∷ []) }
-    {
-        let n = self.size();
-        self.items[n] = task;
-        self.len = n as u8 + 1;
-    }
-
-    // Takes out the task at a place; those behind it move up by one.
-    pub(crate) fn remove_at(&mut self, at: usize)
-        requires { at < length (RowOf self.old) }
-        ensures { RowOf self.new ≡ take at (RowOf self.old) ++ drop (suc at) (RowOf self.old) }
-    {
-        let n = self.size();
-        for i in at + 1..n {
-            self.items[i - 1] = self.items[i];
-        }
-        self.len = n as u8 - 1;
-    }
-
-    // Takes out the first.
-    pub(crate) fn take_first(&mut self) -> u8
-        requires { 0 < length (RowOf self.old) }
-        ensures gives { result ≡ slice_index (RowOf self.old) 0 }
-        ensures rest { RowOf self.new ≡ drop 1 (RowOf self.old) }
-    {
-        let first = self.items[0];
-        self.remove_at(0);
-        first
-    }
-
-    // A request, where the first `places` hold.
-    fn ask(&mut self, places: u8, task: u8, mode: u8) -> Reply
-        ensures after { placed places self.new ≡ MutexModel.requested (placed places self.old) task mode }
-        ensures reply { result ≡ MutexModel.reply (placed places self.old) task mode }
-    {
-        let n = self.size();
-        if !is_place_mode(mode) || task >= 64 || n >= 64 || self.contains(task) {
-            return Reply::Declined;
-        }
-        self.push(task);
-        if n < places as usize {
-            Reply::Granted
-        } else {
-            Reply::Waits
-        }
-    }
-
-    // A completion.
-    fn finish(&mut self, places: u8, task: u8) -> Outcome
-        ensures after { placed places self.new ≡ MutexModel.completed (placed places self.old) task }
-        ensures outcome { OutcomeOf result ≡ OutcomeIn MutexModel (placed places self.old) task }
-    {
-        let n = self.size();
-        let k = n.min(places as usize);
-        let i = place_in(self.part(0, k), task);
-        if i >= k {
-            return Outcome::Declined;
-        }
-        let granted = if k < n { masked(self.items[k]) } else { 0 };
-        self.remove_at(i);
-        Outcome::Done(granted, true)
-    }
-
-    // Who holds.
-    fn holding(&self, places: u8) -> u64
-        ensures { bits result ≡ TasksOf (MutexModel.holds (placed places self.now)) }
-    {
-        let k = self.size().min(places as usize);
-        set_of(self.part(0, k))
-    }
-
-    // Writes who waits.
-    fn list(&self, places: u8, buffer: &mut [u8]) -> Result<usize, Refusal>
-        ensures count { result ≡ CountOf (MutexModel.list (placed places self.now)) buffer.old }
-        ensures writes { buffer.new ≡ written (MutexModel.list (placed places self.now)) buffer.old }
-    {
-        let n = self.size();
-        let k = n.min(places as usize);
-        let count = n - k;
-        if count > buffer.len() {
-            return Err(Refusal::BufferTooShort);
-        }
-        buffer[0..count].copy_from_slice(self.part(k, n));
-        Ok(count)
-    }
+/// As many hold as there are places; the others wait by issue.
+#[derive(Clone, Copy)]
+pub struct Row<P> {
+    places: P,
+    queue: Queue,
 }
 
 /// At most one holds; the others wait by issue.
-#[derive(Clone, Copy)]
-pub struct Mutex {
-    queue: Queue,
-}
+pub type Mutex = Row<OnePlace>;
 
 /// At most as many hold as there are replicas; the others wait by issue.
-#[derive(Clone, Copy)]
-pub struct Replicas {
-    places: u8,
-    queue: Queue,
-}
+pub type Replicas = Row<PlacePerReplica>;
 
-impl Lock for Mutex {
+impl<P: Places> Lock for Row<P> {
     ghost Model = { Fifo };
 
-    ghost view = { MutexView };
+    ghost view = { row_view P.places };
 
-    ghost model = { MutexModel };
+    ghost model = { fifo P.start };
 
-    ghost lawful = { mutex-lawful };
+    ghost lawful = { fifo-lawful P.start P.begins };
 
-    fn set_up(kind: u8, k: u8, _m: u8) -> Result<Mutex, Refusal> {
-        if kind != 1 {
-            return Err(Refusal::NoSuchKind);
-        }
-        if k != 0 {
-            return Err(Refusal::CountUnfit);
-        }
-        Ok(Mutex {
+    fn set_up(kind: u8, count: u8, processors: u8) -> Result<Row<P>, Refusal> {
+        let places = P::set_up(kind, count, processors)?;
+        Ok(Row {
+            places,
             queue: Queue::new(),
         })
     }
 
+    // One mode: an enum of it would tell nothing.
     fn fits(&self, mode: u8) -> bool {
-        is_place_mode(mode)
+        mode == 0
     }
 
-    fn request(&mut self, task: u8, mode: u8) -> Reply {
-        self.queue.ask(1, task, mode)
+    fn request(&mut self, task: u8, mode: u8) -> Option<Reply> {
+        let taken = self.queue.as_slice().len();
+        if !self.fits(mode) || task >= 64 || taken >= 64 || self.queue.contains(task) {
+            return None;
+        }
+        self.queue.push(task);
+        if taken < usize::from(self.places.count()) {
+            Some(Reply::Granted)
+        } else {
+            Some(Reply::Waits)
+        }
     }
 
-    fn complete(&mut self, task: u8) -> Outcome {
-        self.queue.finish(1, task)
+    fn complete(&mut self, task: u8) -> Option<Completion> {
+        let (holding, waiting) = self.queue.split(self.places.count());
+        let at = place_in(holding, task)?;
+        let granted = set_of_first(waiting);
+        self.queue.remove(at);
+        Some(Completion::ending(granted))
     }
 
-    fn holders(&self) -> u64 {
-        self.queue.holding(1)
+    fn holders(&self) -> TaskSet {
+        let (holding, _) = self.queue.split(self.places.count());
+        set_of(holding)
     }
 
     fn waiting(&self, buffer: &mut [u8]) -> Result<usize, Refusal> {
-        self.queue.list(1, buffer)
-    }
-}
-
-impl Lock for Replicas {
-    ghost Model = { Fifo };
-
-    ghost view = { ReplicasView };
-
-    ghost model = { ReplicasModel };
-
-    ghost lawful = { replicas-lawful };
-
-    fn set_up(kind: u8, k: u8, m: u8) -> Result<Replicas, Refusal> {
-        if kind != 3 {
-            return Err(Refusal::NoSuchKind);
+        let (_, waiting) = self.queue.split(self.places.count());
+        let count = waiting.len();
+        if count > buffer.len() {
+            return Err(Refusal::BufferTooShort);
         }
-        if k < 1 || k > m {
-            return Err(Refusal::CountUnfit);
-        }
-        Ok(Replicas {
-            places: k,
-            queue: Queue::new(),
-        })
-    }
-
-    fn fits(&self, mode: u8) -> bool {
-        is_place_mode(mode)
-    }
-
-    fn request(&mut self, task: u8, mode: u8) -> Reply {
-        self.queue.ask(self.places, task, mode)
-    }
-
-    fn complete(&mut self, task: u8) -> Outcome {
-        self.queue.finish(self.places, task)
-    }
-
-    fn holders(&self) -> u64 {
-        self.queue.holding(self.places)
-    }
-
-    fn waiting(&self, buffer: &mut [u8]) -> Result<usize, Refusal> {
-        self.queue.list(self.places, buffer)
+        buffer[..count].copy_from_slice(waiting);
+        Ok(count)
     }
 }

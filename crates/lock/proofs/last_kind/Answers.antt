@@ -1,6 +1,6 @@
 -- The rules are proved, and each example is computed.
 use Rattle.std.proofs.Common.{refl}
-use Rattle.lock.specs.Words.{someone, upto}
+use Rattle.task_set.specs.Sets.{someone, upto}
 use Rattle.lock.proofs.RuleProofs.{rules}
 use Rattle.lock.proofs.last_kind.Goals as goal
 

@@ -1,29 +1,35 @@
 -- The writers are copied to the front of the buffer, and the readers written behind them.
-use Rattle.std.proofs.Common.{◌≡◌, ◌+◌, ◌-◌, ◌<◌, ◌++◌, length, drop, sym, ap, ◌∙◌, arith, length-append}
-use Rattle.std.proofs.lemmas.List.{take_all}
-use Rattle.lock.specs.Words.{upto}
-use Rattle.lock.specs.Views.{row, bits}
-use Rattle.lock.proofs.Waiters.{refused-count, refused-writes, taken-count, taken-writes, joined}
+use Rattle.std.proofs.Common.{◌≡◌, ℕ, ◌+◌, List, ◌++◌, length, ap, arith, length-append}
+use Rattle.task_set.specs.Sets.{tally, upto, bits, members}
+use Rattle.task_set.proofs.Passing.{tally-most, length-upto}
+use Rattle.lock.specs.Views.{row}
+use Rattle.lock.proofs.Waiters.{too-short, counted}
 use Rattle.lock.proofs.reader_writer.ReaderWriterLock.waiting.Goals as goal
 
+-- how long the list is
+both : (ws xs : List ℕ) (readers n : ℕ) → ws ≡ xs → n ≡ tally 64 (bits readers) → length ws + n ≡ length (xs ++ upto 64 (bits readers))
+both ws xs readers n e h = omega (arith, ap length e, h, length-upto 64 (bits readers), length-append xs (upto 64 (bits readers)))
+
 pub overflow_add-count : goal.overflow_add-count
-overflow_add-count c = omega (arith, c.size-n.ensures.most, c.size_of_set.ensures.most)
+overflow_add-count c =
+    omega (arith, tally-most 64 (bits c.args.self.now.readers.bits), ap length c.as_slice-writers.ensures.tasks, c.as_slice-writers.ensures.most, c.len.ensures)
 
-pub returns-then-count-buffer : goal.returns-then-count-buffer
-returns-then-count-buffer c =
-    let s = c.args.self.now in let xs = row s.writers in let ys = upto 64 (bits s.readers) in let buffer = c.args.buffer.now in
-    let short : length buffer < length (xs ++ ys) = simp length-append (omega (arith, c.if-count-buffer.true, c.size-n.ensures.count, c.size_of_set.ensures.count)) in
-    record { count = refused-count (xs ++ ys) buffer short; writes = refused-writes (xs ++ ys) buffer short }
+pub returns-then-count-buffer-clause-count : goal.returns-then-count-buffer-clause-count
+returns-then-count-buffer-clause-count c =
+    let l = c.args.self.now in let is = both c.as_slice-writers.result.now (row l.writers) l.readers.bits c.len.result c.as_slice-writers.ensures.tasks c.len.ensures in
+    (too-short (row l.writers ++ members l.readers) c.args.buffer.now (omega (arith, is, c.if-count-buffer.true))).0
 
-pub returns : goal.returns
-returns c =
-    let s = c.args.self.now in let xs = row s.writers in let ys = upto 64 (bits s.readers) in let buffer = c.args.buffer.now in let n = c.size-n.result in
-    let is : n + c.size_of_set.result ≡ length (xs ++ ys) = simp length-append (omega (arith, c.size-n.ensures.count, c.size_of_set.ensures.count)) in
-    let all : c.copy_from_slice.new.self ≡ xs = c.copy_from_slice.ensures.after ∙ c.part.ensures ∙ take_all n xs (omega (arith, c.size-n.ensures.count)) in
-    let same : n - 0 ≡ n = omega arith in
-    record {
-      count = taken-count (xs ++ ys) buffer (n + c.size_of_set.result) is c.if-count-buffer.false;
-      writes = taken-writes (xs ++ ys) buffer _ (n + c.size_of_set.result) is c.if-count-buffer.false
-          (c.write_set.ensures ∙ joined xs ys buffer c.copy_from_slice.new.self n (n - 0) c.size-n.ensures.count same all
-          ∙ ap (λ k. (xs ++ ys) ++ drop (n + k) buffer) (sym c.size_of_set.ensures.count));
-    }
+pub returns-then-count-buffer-clause-writes : goal.returns-then-count-buffer-clause-writes
+returns-then-count-buffer-clause-writes c =
+    let l = c.args.self.now in let is = both c.as_slice-writers.result.now (row l.writers) l.readers.bits c.len.result c.as_slice-writers.ensures.tasks c.len.ensures in
+    (too-short (row l.writers ++ members l.readers) c.args.buffer.now (omega (arith, is, c.if-count-buffer.true))).1
+
+pub write_tasks-requires : goal.write_tasks-requires
+write_tasks-requires c =
+    omega (arith, length-upto 64 (bits c.args.self.now.readers.bits), c.len.ensures, c.if-count-buffer.false, c.split_at_mut-front.ensures.back_len)
+
+pub returns-clause-count : goal.returns-clause-count
+returns-clause-count c =
+    let l = c.args.self.now in
+    counted (row l.writers ++ members l.readers) c.args.buffer.now _
+    (both c.as_slice-writers.result.now (row l.writers) l.readers.bits c.len.result c.as_slice-writers.ensures.tasks c.len.ensures) c.if-count-buffer.false
