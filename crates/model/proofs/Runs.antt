@@ -36,7 +36,7 @@ module _ {Mark : Type 0} (P : Plan Mark) where
       (cases_lt t P.tasks)
     where
       some-none : (f : Refusal) → Some f ≡ None → ⊥
-      some-none f e = let z : ◌≡◌ {A = ℕ} 0 1 = cc in omega arith
+      some-none f e = cc
 
   -- what holds of the state before, and of the state after an accepted event, holds after the event
   kept_or : (Q : State Mark → Type 0) (o : Option Refusal) (s z : State Mark) → Q s → (o ≡ None → Q z) → Q (kept_if o s z)

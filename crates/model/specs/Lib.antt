@@ -1,4 +1,5 @@
 pub mod Numbers
+pub mod Text
 pub mod Tally
 pub mod Words
 pub mod Rules

@@ -1,9 +1,12 @@
 // The arbiter's words, as types of the code.
 #![tactic(auto)]
 
-ghost use Rattle.std.specs.Prelude.{◌≡◌};
-ghost use Rattle.model.specs.Words.{holds as HoldsIn, runs as RunsIn};
-ghost use Rattle.model.specs.Numbers.{condition_number as ConditionNumber, refusal_number as RefusalNumber, event_task as EventTask, event_kind as EventKind};
+ghost use Rattle.std.specs.Prelude.{◌≡◌, Some};
+ghost use Rattle.model.specs.Words.{holds, runs};
+ghost use Rattle.model.specs.Numbers.{condition_number, refusal_number, event_task, event_kind};
+ghost use Rattle.model.specs.Text.{accepted_text, refusal_text};
+
+use std::fmt;
 
 /// What set-up is told of a task.
 #[derive(Clone, Copy)]
@@ -57,22 +60,29 @@ pub enum Refusal {
 }
 
 impl Event {
+    /// The number of the kind of a release.
+    pub const RELEASE: u8 = 4;
+
+    /// The number of the kind of a finish.
+    pub const FINISH: u8 = 7;
+
     /// The task whose event it is.
     pub fn task(self) -> u8
-        ensures { result ≡ EventTask self }
+        ensures { result ≡ event_task self }
     {
         match self {
             Event::Release { task, .. } | Event::Finish { task } => task,
         }
     }
 
+    // A method and no `From`: the number says the kind alone, and an event is more than its kind.
     /// The number of its kind.
     pub fn kind(self) -> u8
-        ensures { result ≡ EventKind self }
+        ensures { result ≡ event_kind self }
     {
         match self {
-            Event::Release { .. } => 4,
-            Event::Finish { .. } => 7,
+            Event::Release { .. } => Event::RELEASE,
+            Event::Finish { .. } => Event::FINISH,
         }
     }
 }
@@ -80,29 +90,25 @@ impl Event {
 impl Condition {
     /// Whether the job holds a resource.
     pub fn holds(self) -> bool
-        ensures { result ≡ HoldsIn self }
+        ensures { result ≡ holds self }
     {
-        match self {
-            Condition::Holding { .. } => true,
-            _ => false,
-        }
+        matches!(self, Condition::Holding { .. })
     }
 
     /// Whether the job can use a processor.
     pub fn runs(self) -> bool
-        ensures { result ≡ RunsIn self }
+        ensures { result ≡ runs self }
     {
-        match self {
-            Condition::Computing | Condition::Holding { .. } => true,
-            _ => false,
-        }
+        matches!(self, Condition::Computing | Condition::Holding { .. })
     }
+}
 
-    /// The number of the condition.
-    pub fn number(self) -> u8
-        ensures { result ≡ ConditionNumber self }
-    {
-        match self {
+/// The number of the condition.
+impl From<Condition> for u8 {
+    ghost from_gives = { λ condition number. number ≡ condition_number condition };
+
+    fn from(condition: Condition) -> u8 {
+        match condition {
             Condition::Idle => 0,
             Condition::Computing => 1,
             Condition::Wanting { .. } => 2,
@@ -113,12 +119,12 @@ impl Condition {
     }
 }
 
-impl Refusal {
-    /// The number of the refusal.
-    pub fn number(self) -> u8
-        ensures { result ≡ RefusalNumber self }
-    {
-        match self {
+/// The number of the refusal.
+impl From<Refusal> for u8 {
+    ghost from_gives = { λ refusal number. number ≡ refusal_number refusal };
+
+    fn from(refusal: Refusal) -> u8 {
+        match refusal {
             Refusal::ClusterCount => 1,
             Refusal::ClusterSize => 2,
             Refusal::TaskCount | Refusal::MemoryTooSmall => 3,
@@ -130,5 +136,24 @@ impl Refusal {
             Refusal::NotScheduled => 15,
             Refusal::NoSuchCluster => 18,
         }
+    }
+}
+
+impl fmt::Display for Answer {
+    ghost output = { λ answer. Some (accepted_text answer) };
+
+    fn fmt<W: fmt::Write>(&self, f: &mut fmt::Formatter<W>) -> fmt::Result {
+        match self {
+            Answer::Accepted => write!(f, "ok"),
+        }
+    }
+}
+
+/// `no` and the number of the refusal.
+impl fmt::Display for Refusal {
+    ghost output = { λ refusal. Some (refusal_text refusal) };
+
+    fn fmt<W: fmt::Write>(&self, f: &mut fmt::Formatter<W>) -> fmt::Result {
+        write!(f, "no{}", u8::from(*self))
     }
 }
