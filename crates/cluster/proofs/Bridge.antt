@@ -1,7 +1,7 @@
 -- What a list of a cluster's pending jobs says of the words that count
 use Rattle.std.proofs.Common.{◌≡◌, ℕ, ◌<◌, Bool, true, false, ◌&&◌, eqb, ltb, List, [], ◌∷◌, length, get_or, take, sym, refl, ap, ◌∙◌, arith}
 use Rattle.std.proofs.lemmas.Bool.{and_parts, and_from, or_left, or_right, eqb-true, eq-eqb}
-use Rattle.cluster.specs.declared.Entry.{Entry}
+use Rattle.order.specs.declared.Entry.{Entry}
 use Rattle.ordered.specs.Ranks.{Sorted, Leads}
 use Rattle.model.specs.Tally.{tally}
 use Rattle.order.specs.Urgency.{Lawful}

@@ -1,7 +1,7 @@
 -- The ready jobs of a cluster, by the places at which they count
 use Rattle.std.proofs.Common.{◌≡◌, ℕ, ◌<◌, Bool, true, false, cond, ◌&&◌, eqb, ltb, List, [], ◌∷◌, take, Some, None, Option, sym, refl, ap, ◌∙◌, subst, ⊎_elim}
 use Rattle.std.proofs.lemmas.Bool.{cases_Bool, cases_eq, and_parts, and_from, and_left, and_right, or_cases, or_left, or_right, both_ways, eqb-true, eq-eqb, ne_eqb, cond-true, cond-false, not-true, not_from_false}
-use Rattle.cluster.specs.declared.Entry.{Entry}
+use Rattle.order.specs.declared.Entry.{Entry}
 use Rattle.ordered.specs.Ranks.{Sorted, Leads}
 use Rattle.model.specs.Tally.{tally}
 use Rattle.order.specs.Urgency.{Lawful}
@@ -9,7 +9,8 @@ use Rattle.cluster.specs.Listing.{has}
 use Rattle.model.specs.Words.{Plan, State, holds, runs, on, is_some, or_else, pending, goes, ready, place, scheduled}
 use Rattle.model.proofs.Basics.{none_some, some_same}
 use Rattle.model.proofs.Conditions.{runs-pending, holds-open, runs-open_holds}
-use Rattle.cluster.specs.Picks.{pick, chosen, cons_some}
+use Rattle.cluster.specs.Picks.{pick}
+use Rattle.std.specs.List.{filter_map, cons_option}
 use Rattle.cluster.specs.Listing.{Listed, tasks_of}
 use Rattle.cluster.specs.Claims.{Tied}
 use Rattle.cluster.proofs.Line.{Lines, fore-is}
@@ -20,54 +21,54 @@ module _ (goes by : ℕ → ℕ → Bool) (P Q : ℕ → Bool) (pick : ℕ → O
     (down : (p u : ℕ) → P p ≡ true → pick p ≡ Some u → (place u ≡ p) × (Q u ≡ true))
     (up : (u : ℕ) → Q u ≡ true → (P (place u) ≡ true) × (pick (place u) ≡ Some u))
     (along : (u v : ℕ) → Q u ≡ true → Q v ≡ true → goes (place u) (place v) ≡ true → by u v ≡ true) where
-  chosen-has : (ts : List ℕ) (p u : ℕ) → has ts p ≡ true → pick p ≡ Some u → has (chosen pick ts) u ≡ true
+  chosen-has : (ts : List ℕ) (p u : ℕ) → has ts p ≡ true → pick p ≡ Some u → has (filter_map pick ts) u ≡ true
   chosen-has [] p u h e = absurd (both_ways false refl h)
   chosen-has (t ∷ ts) p u h e = ⊎_elim
-      (λ (y : eqb t p ≡ true). ap (λ o. has (cons_some o (chosen pick ts)) u) (ap pick (eqb-true t p y) ∙ e) ∙ or_left (eqb u u) _ (eq-eqb u u refl))
+      (λ (y : eqb t p ≡ true). ap (λ o. has (cons_option o (filter_map pick ts)) u) (ap pick (eqb-true t p y) ∙ e) ∙ or_left (eqb u u) _ (eq-eqb u u refl))
       (λ (y : has ts p ≡ true). more (pick t) (chosen-has ts p u y e))
       (or_cases (eqb t p) _ h)
     where
-      more : (o : Option ℕ) → has (chosen pick ts) u ≡ true → has (cons_some o (chosen pick ts)) u ≡ true
+      more : (o : Option ℕ) → has (filter_map pick ts) u ≡ true → has (cons_option o (filter_map pick ts)) u ≡ true
       more None h = h
       more (Some v) h = or_right (eqb v u) _ h
 
-  has_chosen : (ts : List ℕ) (u : ℕ) → has (chosen pick ts) u ≡ true → (p : ℕ) × (has ts p ≡ true) × (pick p ≡ Some u)
+  has_chosen : (ts : List ℕ) (u : ℕ) → has (filter_map pick ts) u ≡ true → (p : ℕ) × (has ts p ≡ true) × (pick p ≡ Some u)
   has_chosen [] u h = absurd (both_ways false refl h)
   has_chosen (t ∷ ts) u h = split (has_chosen ts u) (pick t) refl h
     where
-      split : (has (chosen pick ts) u ≡ true → (p : ℕ) × (has ts p ≡ true) × (pick p ≡ Some u)) → (o : Option ℕ) → pick t ≡ o → has (cons_some o (chosen pick ts)) u ≡ true → (p : ℕ) × (has (t ∷ ts) p ≡ true) × (pick p ≡ Some u)
+      split : (has (filter_map pick ts) u ≡ true → (p : ℕ) × (has ts p ≡ true) × (pick p ≡ Some u)) → (o : Option ℕ) → pick t ≡ o → has (cons_option o (filter_map pick ts)) u ≡ true → (p : ℕ) × (has (t ∷ ts) p ≡ true) × (pick p ≡ Some u)
       split ih None e y = let r = ih y in (r.0, or_right (eqb t r.0) _ r.1, r.2)
       split ih (Some v) e y = ⊎_elim
           (λ (z : eqb v u ≡ true). (t, or_left (eqb t t) _ (eq-eqb t t refl), e ∙ ap Some (eqb-true v u z)))
-          (λ (z : has (chosen pick ts) u ≡ true). let r = ih z in (r.0, or_right (eqb t r.0) _ r.1, r.2))
+          (λ (z : has (filter_map pick ts) u ≡ true). let r = ih z in (r.0, or_right (eqb t r.0) _ r.1, r.2))
           (or_cases (eqb v u) _ y)
 
-  leads_chosen : (ts : List ℕ) (u : ℕ) → Q u ≡ true → ((p : ℕ) → has ts p ≡ true → P p ≡ true) → Leads goes (place u) ts → Leads by u (chosen pick ts)
+  leads_chosen : (ts : List ℕ) (u : ℕ) → Q u ≡ true → ((p : ℕ) → has ts p ≡ true → P p ≡ true) → Leads goes (place u) ts → Leads by u (filter_map pick ts)
   leads_chosen [] u q all l = tt
   leads_chosen (t ∷ ts) u q all l = split (leads_chosen ts u q (λ p h. all p (or_right (eqb t p) _ h)) l.1) (pick t) refl
     where
-      split : Leads by u (chosen pick ts) → (o : Option ℕ) → pick t ≡ o → Leads by u (cons_some o (chosen pick ts))
+      split : Leads by u (filter_map pick ts) → (o : Option ℕ) → pick t ≡ o → Leads by u (cons_option o (filter_map pick ts))
       split rest None e = rest
       split rest (Some v) e = let d = down t v (all t (or_left (eqb t t) _ (eq-eqb t t refl))) e in (along u v q d.1 (ap (goes (place u)) d.0 ∙ l.0), rest)
 
-  sorted-chosen : (ts : List ℕ) → ((p : ℕ) → has ts p ≡ true → P p ≡ true) → Sorted goes ts → Sorted by (chosen pick ts)
+  sorted-chosen : (ts : List ℕ) → ((p : ℕ) → has ts p ≡ true → P p ≡ true) → Sorted goes ts → Sorted by (filter_map pick ts)
   sorted-chosen [] all s = tt
   sorted-chosen (t ∷ ts) all s = split (sorted-chosen ts (λ p h. all p (or_right (eqb t p) _ h)) s.1) (pick t) refl
     where
-      split : Sorted by (chosen pick ts) → (o : Option ℕ) → pick t ≡ o → Sorted by (cons_some o (chosen pick ts))
+      split : Sorted by (filter_map pick ts) → (o : Option ℕ) → pick t ≡ o → Sorted by (cons_option o (filter_map pick ts))
       split rest None e = rest
       split rest (Some v) e = let d = down t v (all t (or_left (eqb t t) _ (eq-eqb t t refl))) e in
           (leads_chosen ts v d.1 (λ p h. all p (or_right (eqb t p) _ h)) (subst (λ p. Leads goes p ts) (sym d.0) s.0), rest)
 
-  pub line_chosen : (ts : List ℕ) → Lines goes P ts → Lines by Q (chosen pick ts)
+  pub line_chosen : (ts : List ℕ) → Lines goes P ts → Lines by Q (filter_map pick ts)
   line_chosen ts li = record {
     sorted = sorted-chosen ts (λ p h. sym (li.exactly p) ∙ h) li.sorted;
     exactly = λ u. ⊎_elim
         (λ (q : Q u ≡ true). let w = up u q in chosen-has ts (place u) u (li.exactly (place u) ∙ w.0) w.1 ∙ sym q)
         (λ (q : Q u ≡ false). ⊎_elim
-        (λ (h : has (chosen pick ts) u ≡ true). let r = has_chosen ts u h in absurd (both_ways (Q u) q (down r.0 u (sym (li.exactly r.0) ∙ r.1) r.2).1))
-        (λ (h : has (chosen pick ts) u ≡ false). h ∙ sym q)
-        (cases_Bool (has (chosen pick ts) u)))
+        (λ (h : has (filter_map pick ts) u ≡ true). let r = has_chosen ts u h in absurd (both_ways (Q u) q (down r.0 u (sym (li.exactly r.0) ∙ r.1) r.2).1))
+        (λ (h : has (filter_map pick ts) u ≡ false). h ∙ sym q)
+        (cases_Bool (has (filter_map pick ts) u)))
         (cases_Bool (Q u));
   }
 
@@ -146,15 +147,15 @@ module _ {M : Type 0} (P : Plan M) (s : State M) (law : Lawful P.order.before) (
 
   -- the scheduled jobs of a cluster are the first that are picked along its list
   module _ (es : List (Entry M)) (li : Listed P s k es) where
-    pub chosen-line : Lines by_place ready_in (chosen picks (tasks_of es))
+    pub chosen-line : Lines by_place ready_in (filter_map picks (tasks_of es))
     chosen-line = line_chosen (goes P s) by_place (λ t. pending P s t && eqb (P.cluster t) k) ready_in picks (place P s) down up along (tasks_of es) (line P s law k es li)
 
-    pub chosen-within : (t : ℕ) → has (chosen picks (tasks_of es)) t ≡ true → t < P.tasks
+    pub chosen-within : (t : ℕ) → has (filter_map picks (tasks_of es)) t ≡ true → t < P.tasks
     chosen-within t h =
         let a = and_parts (ready P s t) _ (sym (chosen-line.exactly t) ∙ h) in
         li.within t (li.exactly t ∙ and_from (pending P s t) _ (runs-pending (s.condition t) (and_parts (runs (s.condition t)) _ a.0).0) a.1)
 
-    pub scheduled-is : (t : ℕ) → (eqb (P.cluster t) k && scheduled P s t) ≡ has (take P.size (chosen picks (tasks_of es))) t
+    pub scheduled-is : (t : ℕ) → (eqb (P.cluster t) k && scheduled P s t) ≡ has (take P.size (filter_map picks (tasks_of es))) t
     scheduled-is t = ⊎_elim
         (λ (c : P.cluster t ≡ k).
         let e : tally P.tasks (λ u. ready P s u && by_place u t) ≡ tally P.tasks (λ u. ready_in u && by_place u t)
@@ -162,10 +163,10 @@ module _ {M : Type 0} (P : Plan M) (s : State M) (law : Lawful P.order.before) (
         ap (λ b. b && scheduled P s t) (eq-eqb (P.cluster t) k c)
         ∙ (ap (λ i. ready P s t && ltb i P.size) e
         ∙ (ap (λ b. b && ltb (tally P.tasks (λ u. ready_in u && by_place u t)) P.size) (and_one (ready P s t) ∙ ap (λ b. ready P s t && b) (sym (eq-eqb (P.cluster t) k c)))
-        ∙ fore-is by_place by_never by_carries P.tasks ready_in (chosen picks (tasks_of es)) chosen-line chosen-within P.size t)))
+        ∙ fore-is by_place by_never by_carries P.tasks ready_in (filter_map picks (tasks_of es)) chosen-line chosen-within P.size t)))
         (λ (c : P.cluster t ≡ k → ⊥).
         let z : ready_in t ≡ false = and_right (ready P s t) _ (ne_eqb _ _ c) in
         and_left (eqb (P.cluster t) k) _ (ne_eqb _ _ c)
         ∙ (sym (and_left (ready_in t) _ z)
-        ∙ fore-is by_place by_never by_carries P.tasks ready_in (chosen picks (tasks_of es)) chosen-line chosen-within P.size t))
+        ∙ fore-is by_place by_never by_carries P.tasks ready_in (filter_map picks (tasks_of es)) chosen-line chosen-within P.size t))
         (cases_eq (P.cluster t) k)

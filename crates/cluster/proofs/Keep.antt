@@ -1,8 +1,8 @@
 -- What keeps a cluster's list true: one more, one fewer, and changes that leave who is pending
-use Rattle.std.proofs.Common.{◌≡◌, ℕ, zero, suc, ◌<◌, Bool, true, false, cond, not, ◌&&◌, ◌||◌, eqb, List, [], ◌∷◌, length, get_or, sym, refl, ap, ◌∙◌, subst, ⊎_elim, arith}
+use Rattle.std.proofs.Common.{◌≡◌, ℕ, zero, suc, ◌+◌, ◌<◌, Bool, true, false, cond, not, ◌&&◌, ◌||◌, eqb, List, [], ◌∷◌, length, get_or, sym, refl, ap, ◌∙◌, subst, ⊎_elim, arith}
 use Rattle.std.specs.List.{remove}
-use Rattle.std.proofs.lemmas.Bool.{cases_Bool, cases_eq, and_parts, and_from, and_left, and_right, or_cases, or_parts, or_left, or_right, both_ways, eqb-true, eqb-false, eq-eqb, ne_eqb, not_from_true, not_from_false, cond-true, cond-false}
-use Rattle.cluster.specs.declared.Entry.{Entry}
+use Rattle.std.proofs.lemmas.Bool.{cases_Bool, cases_eq, and_parts, and_from, and_left, and_right, or_cases, or_parts, or_left, or_right, both_ways, eqb-true, eqb-false, eq-eqb, ne_eqb, not_from_true, not_from_false}
+use Rattle.order.specs.declared.Entry.{Entry}
 use Rattle.ordered.specs.Ranks.{Ranks, Sorted, Fresh, ranked, found}
 use Rattle.ordered.proofs.Sortedness.{ranked-sorted, removed-sorted}
 use Rattle.order.specs.Urgency.{Lawful}
@@ -71,10 +71,10 @@ pub found_at : {M : Type 0} (t : ℕ) (es : List (Entry M)) → has (tasks_of es
 found_at t [] h = absurd (both_ways false refl h)
 found_at t (e ∷ es) h = ⊎_elim
     (λ (y : eqb e.task t ≡ true).
-    let z : found (λ e. e.task) t (e ∷ es) ≡ 0 = cond-true (eqb e.task t) 0 _ y in
+    let z : found (λ e. e.task) t (e ∷ es) ≡ 0 = ap (λ b. cond (not b) (1 + found (λ e. e.task) t es) 0) y in
     (omega arith, ap (λ i. get_or (e.task ∷ tasks_of es) i 0) z ∙ eqb-true e.task t y))
     (λ (y : eqb e.task t ≡ false).
-    let z : found (λ e. e.task) t (e ∷ es) ≡ suc (found (λ e. e.task) t es) = cond-false (eqb e.task t) 0 _ y in
+    let z : found (λ e. e.task) t (e ∷ es) ≡ suc (found (λ e. e.task) t es) = ap (λ b. cond (not b) (1 + found (λ e. e.task) t es) 0) y ∙ omega arith in
     let r = found_at t es (ap (λ b. b || has (tasks_of es) t) (sym y) ∙ h) in
     let l : found (λ e. e.task) t es < length (tasks_of es) = r.0 in
     (omega arith, ap (λ i. get_or (e.task ∷ tasks_of es) i 0) z ∙ r.1))

@@ -4,7 +4,6 @@ pub mod Keep
 pub mod Choose
 pub mod Bits
 pub mod Whole
-pub mod Loops
 pub mod Departs
 pub mod Parting
 pub mod Moves

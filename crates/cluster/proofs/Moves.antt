@@ -1,17 +1,17 @@
 -- A cluster's list stays true as one job comes or leaves.
-use Rattle.std.proofs.Common.{◌≡◌, ℕ, zero, suc, ◌+◌, ◌-◌, ◌<◌, ◌≤◌, Bool, true, false, cond, ◌&&◌, ltb, leb, List, [], ◌∷◌, ◌++◌, length, take, drop, Some, None, Option, sym, refl, ap, ◌∙◌, subst, ⊎_elim, arith, length-append, length-drop}
+use Rattle.std.proofs.Common.{◌≡◌, ℕ, ◌+◌, ◌-◌, ◌<◌, ◌≤◌, Bool, true, false, ◌&&◌, ltb, leb, List, ◌++◌, length, take, drop, sym, refl, ap, ◌∙◌, subst, ⊎_elim, arith, length-append, length-drop}
 use borrow.Rule.Slice.PartMut.{put_mid}
-use Rattle.std.specs.List.{slice_get, remove}
+use Rattle.std.specs.List.{remove}
 use Rattle.std.proofs.lemmas.List.{take_all, length-take-le}
 use Rattle.std.proofs.lemmas.Bool.{cases_Bool, cases_lt, ltb-true, leb-true, lt-ltb, le-ltb, cond-true, cond-false, and_from, and_parts, le-leb}
 use Rattle.std.proofs.lemmas.List.Edits.{length-remove}
 use Rattle.ordered.proofs.Fronts.{length-ranked, ranked-front, closed-front}
 use Rattle.order.specs.Urgency.{Lawful}
 use Rattle.ordered.specs.Ranks.{ranked, found}
-use Rattle.ordered.specs.Places.{held, taken, closed}
+use Rattle.ordered.specs.Places.{held, closed}
 use Rattle.model.specs.declared.Condition.TheVariants.{Idle}
 use Rattle.model.specs.Rules.{arrive, become}
-use Rattle.cluster.specs.declared.Entry.{Entry}
+use Rattle.order.specs.declared.Entry.{Entry}
 use Rattle.cluster.specs.Listing.{Listed, urgent, part, fits, entered, entered_count, departed, departed_count}
 use Rattle.cluster.specs.Claims.{ListedOnArrival, ListedOnLeaving, Entering, Departing}
 use Rattle.cluster.proofs.Keep.{listed_arrive, room}
@@ -43,15 +43,6 @@ module _ {M : Type 0} (before : M → ℕ → M → ℕ → Bool) (law : Lawful 
       let h : (ltb (found (λ e. e.task) t (take used old)) used && leb used (length old)) ≡ true = and_from (ltb (found (λ e. e.task) t (take used old)) used) _ (lt-ltb _ _ f) (le-leb used (length old) most) in
       let n : departed_count used t old ≡ used - 1 = cond-true _ _ _ h in
       subst (Listed P (become s t Idle) (P.cluster t)) (sym (ap (λ i. take i (departed used t old)) n ∙ closed-front old used (found (λ e. e.task) t (take used old)) f most)) (departs P good s t p old used most li)
-
--- what the count is where the list had a place or an entry, and where it had not
-pub counted : {A : Type 0} (b : Bool) (x : A) (o : Option A) (n z : ℕ) → Some x ≡ cond b o None → n ≡ cond b n z
-counted true x o n z e = refl
-counted false x o n z e = let w : ◌≡◌ {A = ℕ} 0 1 = cc in absurd (omega arith)
-
-pub uncounted : {A : Type 0} (b : Bool) (x : A) (n z : ℕ) → None ≡ cond b (Some x) None → z ≡ cond b n z
-uncounted true x n z e = let w : ◌≡◌ {A = ℕ} 0 1 = cc in absurd (omega arith)
-uncounted false x n z e = refl
 
 -- the same of a list in a part of a slice
 module _ {M : Type 0} (before : M → ℕ → M → ℕ → Bool) (law : Lawful before) (xs last : List (Entry M)) (from room j used : ℕ)
@@ -85,23 +76,6 @@ module _ {M : Type 0} (before : M → ℕ → M → ℕ → Bool) (law : Lawful 
               (subst (ListedOnLeaving before (part from room xs) used t (departed used t (part from room xs))) (sym count) (leaves before law (part from room xs) used t));
           others = elsewhere xs last from room j (departed used t) e f is kept;
         }
-
--- an element that exists is there to read
-readable : {A : Type 0} (ys : List A) (i : ℕ) → i < length ys → slice_get ys i ≡ None → ⊥
-readable [] i l e = omega arith
-readable (y ∷ ys) zero l e = let w : ◌≡◌ {A = ℕ} 0 1 = cc in omega arith
-readable (y ∷ ys) (suc i) l e = readable ys i (omega arith) e
-
--- nothing was taken out, so nothing was held there
-pub untaken : {A : Type 0} (used at : ℕ) (ys : List A) (n z : ℕ) → None ≡ taken used at ys → z ≡ cond (held used at ys) n z
-untaken used at ys n z e = ⊎_elim
-    (λ (h : held used at ys ≡ true).
-    let p = and_parts (ltb at used) _ h in
-    let a : at < used = ltb-true at used p.0 in
-    let b : used ≤ length ys = leb-true used (length ys) p.1 in
-    absurd (readable ys at (omega arith) (sym (e ∙ cond-true (held used at ys) (slice_get ys at) None h))))
-    (λ (h : held used at ys ≡ false). sym (cond-false (held used at ys) n z h))
-    (cases_Bool (held used at ys))
 
 -- neither changes how many places there are
 pub length-entered : {M : Type 0} (before : M → ℕ → M → ℕ → Bool) (used : ℕ) (e : Entry M) (es : List (Entry M)) → length (entered before used e es) ≡ length es

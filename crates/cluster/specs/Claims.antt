@@ -3,7 +3,7 @@ use Rattle.std.specs.Prelude.{◌≡◌, ℕ, ◌+◌, ◌<◌, ◌≤◌, Bool,
 use Rattle.model.specs.declared.Condition.TheVariants.{Idle}
 use Rattle.model.specs.Words.{Plan, State, is_open, pending, scheduled_set}
 use Rattle.model.specs.Rules.{arrive, become}
-use Rattle.cluster.specs.declared.Entry.{Entry}
+use Rattle.order.specs.declared.Entry.{Entry}
 use Rattle.cluster.specs.declared.Job.{Job}
 use Rattle.cluster.specs.Listing.{Listed, part, with_part, fits, entered, entered_count, departed, departed_count}
 use Rattle.cluster.specs.Picks.{condition_at, donor_at, recipient_at}

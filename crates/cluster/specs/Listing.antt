@@ -1,9 +1,11 @@
 -- A cluster's pending jobs as an ordered list of entries.
-use Rattle.std.specs.Prelude.{◌≡◌, ℕ, ◌+◌, ◌-◌, ◌<◌, Bool, true, false, cond, ◌&&◌, ◌||◌, List, [], ◌∷◌, ◌++◌, length, take, drop, ◌==◌, nat_le, nat_lt}
+use Rattle.std.specs.Prelude.{◌≡◌, ℕ, ◌+◌, ◌-◌, ◌<◌, Bool, true, cond, ◌&&◌, List, [], ◌∷◌, ◌++◌, length, map, take, drop, ◌==◌, nat_le, nat_lt}
+use Rattle.std.specs.List.{list_any}
 use Rattle.ordered.specs.Ranks.{Sorted, ranked, found}
 use Rattle.ordered.specs.Places.{closed}
 use Rattle.model.specs.Words.{Plan, State, pending}
-use Rattle.cluster.specs.declared.Entry.{Entry}
+use Rattle.order.specs.declared.Entry.{Entry}
+use Rattle.cluster.specs.declared.Span.{Span}
 
 -- one pending job is more urgent than another
 abbrev pub urgent : {Mark : Type 0} → (Mark → ℕ → Mark → ℕ → Bool) → Entry Mark → Entry Mark → Bool
@@ -11,13 +13,11 @@ urgent before a b = before a.mark a.task b.mark b.task
 
 -- the tasks of the entries, in their order
 abbrev pub tasks_of : {Mark : Type 0} → List (Entry Mark) → List ℕ
-tasks_of [] = []
-tasks_of (e ∷ es) = e.task ∷ tasks_of es
+tasks_of es = map (λ e. e.task) es
 
 -- is t one of them
 abbrev pub has : List ℕ → ℕ → Bool
-has [] t = false
-has (x ∷ xs) t = x == t || has xs t
+has xs t = list_any (λ x. x == t) xs
 
 -- each entry has the mark of its task
 abbrev pub Marked : {Mark : Type 0} → (ℕ → Mark) → List (Entry Mark) → Type 0
@@ -34,6 +34,10 @@ pub record Listed {Mark : Type 0} (P : Plan Mark) (s : State Mark) (k : ℕ) (es
 -- the n places from a on
 abbrev pub part : {A : Type 0} → ℕ → ℕ → List A → List A
 part a n xs = take n (drop a xs)
+
+-- the entries of the list that lies there
+abbrev pub entries : {A : Type 0} → Span → List A → List A
+entries l xs = take l.used (part l.from l.room xs)
 
 -- xs with ys in the n places from a on
 abbrev pub with_part : {A : Type 0} → ℕ → ℕ → List A → List A → List A

@@ -1,10 +1,12 @@
 -- Who runs, read off the job records along a cluster's list.
-use Rattle.std.specs.Prelude.{ℕ, ◌^◌, cond, List, [], ◌∷◌, take, Some, None, Option, bit_or, nat_lt}
+use Rattle.std.specs.Prelude.{ℕ, cond, List, take, Some, None, Option, bit_or, fold, filter_map}
 use Rattle.std.specs.List.{slice_get}
 use Rattle.model.specs.declared.Condition.{Condition}
 use Rattle.model.specs.declared.Condition.TheVariants.{Idle}
 use Rattle.model.specs.Words.{holds, runs, on, is_some}
-use Rattle.cluster.specs.declared.Entry.{Entry}
+use Rattle.task_set.specs.declared.TaskSet.{TaskSet}
+use Rattle.task_set.specs.Sets.{bit}
+use Rattle.order.specs.declared.Entry.{Entry}
 use Rattle.cluster.specs.declared.Job.{Job}
 use Rattle.cluster.specs.Listing.{tasks_of}
 
@@ -33,25 +35,14 @@ pick condition donor recipient t =
 abbrev pub pick_at : List Job → ℕ → Option ℕ
 pick_at js = pick (condition_at js) (donor_at js) (recipient_at js)
 
--- o in front, where it is a task
-abbrev pub cons_some : Option ℕ → List ℕ → List ℕ
-cons_some None ts = ts
-cons_some (Some t) ts = t ∷ ts
-
--- who is picked at each of ts, in their order
-abbrev pub chosen : (ℕ → Option ℕ) → List ℕ → List ℕ
-chosen pick [] = []
-chosen pick (t ∷ ts) = cons_some (pick t) (chosen pick ts)
-
--- the set of t alone
-abbrev pub bit : ℕ → ℕ
-bit t = cond (nat_lt t 64) (2 ^ t) 0
-
--- the set x with ts put in
-abbrev pub joined : ℕ → List ℕ → ℕ
-joined x [] = x
-joined x (t ∷ ts) = joined (bit_or x (bit t)) ts
+-- the set x with t put in
+abbrev pub joined : TaskSet → ℕ → TaskSet
+joined x t = record { bits = bit_or x.bits (bit t) }
 
 -- the set of the first `size` who are picked along the entries
+abbrev pub picked_tasks : {Mark : Type 0} → List Job → List (Entry Mark) → ℕ → TaskSet
+picked_tasks js es size = fold joined (record { bits = 0 }) (take size (filter_map (pick_at js) (tasks_of es)))
+
+-- the same as a number
 abbrev pub picked_set : {Mark : Type 0} → List Job → List (Entry Mark) → ℕ → ℕ
-picked_set js es size = joined 0 (take size (chosen (pick_at js) (tasks_of es)))
+picked_set js es size = (picked_tasks js es size).bits

@@ -1,17 +1,18 @@
 // A cluster: its pending jobs as an ordered list in lent places, and which of them are scheduled.
 #![tactic(auto)]
 
-ghost use Rattle.std.specs.Prelude.{◌≡◌, take, set, slice_set};
-ghost use Rattle.std.specs.List.{slice_get};
-ghost use Rattle.cluster.specs.Listing.{urgent, part};
-ghost use Rattle.cluster.specs.Picks.{bit as BitOf, condition_at as ConditionAt, pick_at as PickAt, picked_set as PickedSet};
+ghost use Rattle.std.specs.Prelude.{◌≡◌, ◌+◌, length, nat_le, slice_set};
+ghost use Rattle.cluster.specs.Listing.{urgent, entries, entered, entered_count, departed, departed_count};
+ghost use Rattle.cluster.specs.Picks.{condition_at, pick_at, picked_tasks, picked_set};
 ghost use Rattle.cluster.specs.Claims.{IsScheduled, Entering, Departing};
-ghost use Rattle.model.specs.Words.{holds as holdsIn};
+ghost use Rattle.model.specs.Words.{holds};
 ghost use Rattle.std.proofs.Common.{rules};
 
 use model::Condition;
-use order::Order;
-use ordered::Ranking;
+use order::{Entry, Order};
+use ordered::{OrderedList, Ranking};
+use std::marker::PhantomData;
+use task_set::TaskSet;
 
 /// The record of a task's job. A donor gives its place to its recipient.
 #[derive(Clone, Copy)]
@@ -21,16 +22,18 @@ pub struct Job {
     pub recipient: Option<u8>,
 }
 
-/// A pending job in its cluster's list.
-#[derive(Clone, Copy)]
-pub struct Entry<M> {
-    pub mark: M,
-    pub task: u8,
+impl Job {
+    /// The record of a task with no pending job.
+    pub const IDLE: Job = Job {
+        condition: Condition::Idle,
+        donor: None,
+        recipient: None,
+    };
 }
 
-/// Pending jobs, ranked by an order of urgency. No value of it is made.
+/// Pending jobs, ranked by an order of urgency.
 pub struct Pending<O> {
-    pub order: O,
+    order: PhantomData<O>,
 }
 
 impl<O: Order> Ranking for Pending<O> {
@@ -47,18 +50,29 @@ impl<O: Order> Ranking for Pending<O> {
     }
 
     fn goes_before(x: Entry<O::Mark>, y: Entry<O::Mark>) -> bool {
-        O::goes_first(x.mark, x.task, y.mark, y.task)
+        O::goes_first(x, y)
     }
 }
 
-/// The element at `i`, if there is one.
-pub fn fetch<A: Copy>(xs: &[A], i: u8) -> Option<A>
-    ensures { result ≡ slice_get xs.now i }
-{
-    let at = usize::from(i);
-    if at < xs.len() { Some(xs[at]) } else { None }
+/// Where a cluster's list lies in the lent places: in the first `used` of the `room` places from
+/// `from` on.
+#[derive(Clone, Copy)]
+pub struct Span {
+    pub from: usize,
+    pub room: usize,
+    pub used: usize,
 }
 
+impl Span {
+    // Whether there are as many places.
+    fn lies_in(self, places: usize) -> bool
+        ensures { result ≡ nat_le (self.from + self.room) places }
+    {
+        self.from <= places && self.room <= places - self.from
+    }
+}
+
+// A write through the library's `get_mut` is not followed by the check, so it is by index here.
 /// Stores `a` at `i`, where there is such a place.
 pub fn store<A: Copy>(xs: &mut [A], i: u8, a: A)
     ensures { xs.new ≡ slice_set xs.old i a }
@@ -69,136 +83,103 @@ pub fn store<A: Copy>(xs: &mut [A], i: u8, a: A)
     }
 }
 
-// The first n, or all.
-fn front<A>(xs: &[A], n: usize) -> &[A]
-    ensures { result.now ≡ take n xs.now }
-{
-    if n < xs.len() { &xs[0..n] } else { xs }
-}
-
-// The n places from `from` on, as far as they exist.
-fn span<A>(xs: &[A], from: usize, n: usize) -> &[A]
-    ensures { result.now ≡ part from n xs.now }
-{
-    if from <= xs.len() {
-        let (_, rest) = xs.split_at(from);
-        front(rest, n)
-    } else {
-        front(xs, 0)
-    }
-}
-
 // Whether the task's job holds a resource.
 fn task_holds(jobs: &[Job], task: u8) -> bool
-    ensures { result ≡ holdsIn (ConditionAt jobs.now task) }
+    ensures { result ≡ holds (condition_at jobs.now task) }
 {
-    match fetch(jobs, task) {
-        Some(job) => job.condition.holds(),
-        None => false,
-    }
+    jobs.get(usize::from(task))
+        .is_some_and(|job| job.condition.holds())
 }
 
 // Who runs at the place of the task.
 fn picked(jobs: &[Job], task: u8) -> Option<u8>
-    ensures { result ≡ PickAt jobs.now task }
+    ensures { result ≡ pick_at jobs.now task }
 {
-    let Some(job) = fetch(jobs, task) else {
-        return None;
-    };
-    if let Some(r) = job.recipient {
-        if task_holds(jobs, r) {
-            return Some(r);
-        }
-    }
-    match job.donor {
-        Some(_) => None,
-        None => {
-            if job.condition.runs() {
-                Some(task)
-            } else {
-                None
-            }
-        }
+    let job = jobs.get(usize::from(task))?;
+    match (job.recipient, job.donor) {
+        (Some(r), _) if task_holds(jobs, r) => Some(r),
+        (_, Some(_)) => None,
+        (_, None) => job.condition.runs().then_some(task),
     }
 }
 
-// The set of one task.
-fn bit(task: u8) -> u64
-    ensures { result ≡ BitOf task }
-{
-    if task < 64 { 1u64 << task } else { 0 }
-}
-
+// Apart from `scheduled_set`, whose second clause rests on this one.
 // The tasks that run at the first places where one can, `size` of them at most.
-fn first_picked<M: Copy>(jobs: &[Job], entries: &[Entry<M>], size: usize) -> u64
-    ensures { result ≡ PickedSet jobs.now entries.now size }
+fn first_picked<M: Copy>(jobs: &[Job], places: &[Entry<M>], list: Span, size: usize) -> TaskSet
+    ensures { result ≡ picked_tasks jobs.now (entries list places.now) size }
 {
-    let mut set = 0u64;
-    let mut left = size;
-    for e in entries {
-        if left == 0 {
-            return set;
-        }
-        if let Some(t) = picked(jobs, e.task) {
-            set |= bit(t);
-            left -= 1;
-        }
-    }
-    set
+    places
+        .iter()
+        .skip(list.from)
+        .take(list.room)
+        .take(list.used)
+        .map(|entry| entry.task)
+        .filter_map(|task| picked(jobs, task))
+        .take(size)
+        .fold(TaskSet::new(), TaskSet::with)
 }
 
-/// The set of the tasks scheduled on a cluster of `size` processors, bit t for task t. Its list
-/// has the first `used` of the `room` places from `from` on.
+/// The tasks scheduled on a cluster of `size` processors.
 pub fn scheduled_set<O: Order>(
     jobs: &[Job],
     places: &[Entry<O::Mark>],
-    from: usize,
-    room: usize,
-    used: usize,
+    list: Span,
     size: usize,
-) -> u64
-    ensures value { result ≡ PickedSet jobs.now (take used (part from room places.now)) size }
-    ensures means { IsScheduled O.Order.urgency.before jobs.now (take used (part from room places.now)) size result }
+) -> TaskSet
+    ensures value { result.bits ≡ picked_set jobs.now (entries list places.now) size }
+    ensures means { IsScheduled O.Order.urgency.before jobs.now (entries list places.now) size result.bits }
 {
-    first_picked(jobs, front(span(places, from, room), used), size)
+    first_picked(jobs, places, list, size)
 }
 
-/// One pending job more in the list that has the first `used` of the `room` places from `from`
-/// on. The answer is how many it has then; nothing changes where it is full or lies outside.
-pub fn enter<O: Order>(
-    places: &mut [Entry<O::Mark>],
-    from: usize,
-    room: usize,
-    used: usize,
-    entry: Entry<O::Mark>,
-) -> usize
-    ensures { Entering O.Order.urgency.before places.old from room used entry places.new result }
+// Apart from `enter`: the check does not follow a list that is made over a part of a slice.
+// One pending job more in the list in the first `used` places: how many it has then.
+fn insert<O: Order>(places: &mut [Entry<O::Mark>], used: usize, entry: Entry<O::Mark>) -> usize
+    ensures after { places.new ≡ entered O.Order.urgency.before used entry places.old }
+    ensures count { result ≡ entered_count used (length places.old) }
 {
-    if from > places.len() || room > places.len() - from {
-        return used;
-    }
-    match ordered::insert::<Pending<O>>(&mut places[from..from + room], used, entry) {
-        Some(_) => used + 1,
-        None => used,
-    }
+    let mut list = OrderedList::<Pending<O>> { places, used };
+    list.insert(entry);
+    list.used
 }
 
-/// One pending job fewer in such a list. The answer is how many it has then; nothing changes
+// One pending job fewer in such a list: how many it has then.
+fn remove<O: Order>(places: &mut [Entry<O::Mark>], used: usize, task: u8) -> usize
+    ensures after { places.new ≡ departed used task places.old }
+    ensures count { result ≡ departed_count used task places.old }
+{
+    let mut list = OrderedList::<Pending<O>> { places, used };
+    list.remove(task);
+    list.used
+}
+
+/// One pending job more in a cluster's list. The answer is how many it has then; nothing changes
+/// where it is full or lies outside.
+pub fn enter<O: Order>(places: &mut [Entry<O::Mark>], list: Span, entry: Entry<O::Mark>) -> usize
+    ensures { Entering O.Order.urgency.before places.old list.from list.room list.used entry places.new result }
+{
+    if !list.lies_in(places.len()) {
+        return list.used;
+    }
+    insert::<O>(
+        &mut places[list.from..list.from + list.room],
+        list.used,
+        entry,
+    )
+}
+
+// A twin of `enter`, kept: a closure for the one call that differs needs a contract as long.
+/// One pending job fewer in a cluster's list. The answer is how many it has then; nothing changes
 /// where the task has no entry in it or it lies outside.
-pub fn depart<O: Order>(
-    places: &mut [Entry<O::Mark>],
-    from: usize,
-    room: usize,
-    used: usize,
-    task: u8,
-) -> usize
-    ensures { Departing O.Order.urgency.before places.old from room used task places.new result }
+pub fn depart<O: Order>(places: &mut [Entry<O::Mark>], list: Span, task: u8) -> usize
+    ensures { Departing O.Order.urgency.before places.old list.from list.room list.used task places.new result }
 {
-    if from > places.len() || room > places.len() - from {
-        return used;
+    if !list.lies_in(places.len()) {
+        return list.used;
     }
-    match ordered::remove::<Pending<O>>(&mut places[from..from + room], used, task) {
-        Some(_) => used - 1,
-        None => used,
-    }
+    remove::<O>(
+        &mut places[list.from..list.from + list.room],
+        list.used,
+        task,
+    )
 }

@@ -1,17 +1,10 @@
-use Rattle.std.proofs.Common.{◌≡◌, take, sym, ap, ◌∙◌, subst}
-use Rattle.cluster.specs.Listing.{part}
-use Rattle.cluster.specs.Picks.{picked_set}
+use Rattle.std.proofs.Common.{sym, ap, subst}
 use Rattle.cluster.specs.Claims.{IsScheduled}
+use Rattle.cluster.specs.Listing.{entries}
 use Rattle.cluster.proofs.Whole.{set_holds}
 use Rattle.cluster.proofs.scheduled_set.Goals as goal
 
-pub returns : goal.returns
-returns g c =
-    let js = c.args.jobs.now in
-    let es = take c.args.used (part c.args.from c.args.room c.args.places.now) in
-    let e : c.first_picked.result ≡ picked_set js es c.args.size =
-    c.first_picked.ensures ∙ ap (λ xs. picked_set js xs c.args.size) (c.front.ensures ∙ ap (take c.args.used) c.span.ensures) in
-    record {
-      value = e;
-      means = subst (IsScheduled g.O.Order.urgency.before js es c.args.size) (sym e) (set_holds g.O.Order.urgency.before g.met.O.Order.lawful js es c.args.size);
-    }
+pub returns-clause-means : goal.returns-clause-means
+returns-clause-means g c =
+    let before = g.O.Order.urgency.before in let js = c.args.jobs.now in let es = entries c.args.list c.args.places.now in
+    subst (IsScheduled before js es c.args.size) (sym (ap (λ s. s.bits) c.first_picked.ensures)) (set_holds before g.met.O.Order.lawful js es c.args.size)
