@@ -2,5 +2,4 @@ pub mod Replies
 pub mod Stores
 pub mod Steps
 pub mod Starts
-pub mod Scans
 pub mod Runs

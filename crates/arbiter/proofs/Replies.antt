@@ -1,6 +1,7 @@
 -- Memory that stands for a state answers as the rules do.
 use Rattle.std.proofs.Common.{◌≡◌, ℕ, ◌/◌, ◌%◌, ◌^◌, ◌<◌, ◌≤◌, Bool, true, false, cond, not, ◌&&◌, eqb, ltb, List, Some, None, sym, refl, ap, ◌∙◌, ⊎_elim, arith}
 use Rattle.std.proofs.lemmas.Bool.{cases_lt, lt-ltb, le-ltb, eq-eqb, cond-true, cond-false, not_from_false}
+use Rattle.task_set.specs.Sets.{bits}
 use Rattle.order.specs.Urgency.{Urgency, Lawful}
 use Rattle.model.specs.declared.Event.{Event}
 use Rattle.model.specs.declared.Event.TheVariants.{Release, Finish}
@@ -48,6 +49,7 @@ module _ {Mark : Type 0} (order : Urgency Mark) (law : Lawful order.before) (y :
 
   -- a task is in its cluster's set if it is scheduled
   in_running : (t : ℕ) → t < task_count y → in_set (running order y m (cluster_at y.tasks.now t)) t ≡ scheduled P s t
+  unfolding bits
   in_running t l =
       let few : task_count y ≤ 64 = re.accepted.few_tasks in
       let k = cluster_at y.tasks.now t in

@@ -1,5 +1,5 @@
 -- A list of events run on the memory is that list run by the rules.
-use Rattle.std.proofs.Common.{◌≡◌, ℕ, suc, ◌+◌, ◌<◌, min, List, [], ◌∷◌, ◌++◌, length, get_or, take, drop, set, sym, refl, ap, ◌∙◌, subst, append_assoc, arith}
+use Rattle.std.proofs.Common.{◌≡◌, ℕ, zero, suc, ◌+◌, ◌<◌, min, List, [], ◌∷◌, ◌++◌, length, get_or, take, drop, set, sym, refl, ap, ◌∙◌, subst, append_assoc, arith}
 use Rattle.std.proofs.lemmas.List.{take_more, drop_more, set_at, length-take-le}
 use Rattle.order.specs.Urgency.{Urgency, Lawful}
 use Rattle.model.specs.declared.Event.{Event}
@@ -16,6 +16,19 @@ use Rattle.arbiter.proofs.Steps.{acted}
 same-eight : (f g : ℕ → ℕ) → ((k : ℕ) → f k ≡ g k) → eight f ≡ eight g
 same-eight f g h =
     let a = h 0 in let b = h 1 in let c = h 2 in let d = h 3 in let e = h 4 in let i = h 5 in let j = h 6 in let k = h 7 in cc
+
+-- what holds of 0 to 7 holds of each number below 8
+module _ (P : ℕ → Type 0) (a : P 0) (b : P 1) (c : P 2) (d : P 3) (e : P 4) (f : P 5) (g : P 6) (h : P 7) where
+  pub by_eight : (i : ℕ) → i < 8 → P i
+  by_eight zero lt = a
+  by_eight (suc zero) lt = b
+  by_eight (suc (suc zero)) lt = c
+  by_eight (suc (suc (suc zero))) lt = d
+  by_eight (suc (suc (suc (suc zero)))) lt = e
+  by_eight (suc (suc (suc (suc (suc zero))))) lt = f
+  by_eight (suc (suc (suc (suc (suc (suc zero)))))) lt = g
+  by_eight (suc (suc (suc (suc (suc (suc (suc zero))))))) lt = h
+  by_eight (suc (suc (suc (suc (suc (suc (suc (suc i)))))))) lt = absurd (omega arith)
 
 module _ {Mark : Type 0} (order : Urgency Mark) (y : System) where
   -- one event more

@@ -13,9 +13,10 @@ use Rattle.cluster.specs.Listing.{Listed, part}
 use Rattle.cluster.specs.Picks.{read}
 use Rattle.cluster.proofs.Keep.{listed_none}
 use Rattle.arbiter.specs.declared.System.{System}
-use Rattle.arbiter.specs.Memory.{Tables, said, Contents, count_at, cluster_at, parameter_at, task_count, plan_of}
+use Rattle.arbiter.specs.declared.Arbiter.{Arbiter}
+use Rattle.arbiter.specs.Memory.{said, Contents, contents, count_at, cluster_at, parameter_at, task_count, plan_of}
 use Rattle.arbiter.specs.Meaning.{Reached}
-use Rattle.arbiter.specs.SetUp.{outside, absent, unfit, idle_job, unaccepted, cleared, told, SetUp}
+use Rattle.arbiter.specs.SetUp.{outside, absent, unfit, idle_job, unaccepted, cleared, SetUp}
 use Rattle.arbiter.proofs.Steps.{passed}
 use Rattle.arbiter.proofs.Stores.{suffices}
 
@@ -38,6 +39,15 @@ fitting fits (x ∷ ts) e (suc t) l = fitting fits ts (or_parts (not (fits x.par
 
 inside : (low high n : ℕ) → outside low high n ≡ false → (low ≤ n) × (n ≤ high)
 inside low high n e = let p = or_parts _ _ e in (ltb-false _ _ p.0, ltb-false _ _ p.1)
+
+-- the reason of a refusal, and none where there is none
+pub refused-for : (o : Option Refusal) (f : Refusal) → ◌≡◌ {A = Result (Unit {0}) Refusal} (Err f) (unless o tt) → o ≡ Some f
+refused-for None f e = absurd cc
+refused-for (Some x) f e = cc
+
+pub accepted-for : (o : Option Refusal) → ◌≡◌ {A = Result (Unit {0}) Refusal} (Ok tt) (unless o tt) → o ≡ None
+accepted-for None e = refl
+accepted-for (Some f) e = absurd cc
 
 module _ {Mark : Type 0} (order : Urgency Mark) (law : Lawful order.before) where
   starts : (y : System) (m : Contents Mark) → unaccepted order (said y) m ≡ None → Reached order y (cleared order m) []
@@ -76,22 +86,20 @@ module _ {Mark : Type 0} (order : Urgency Mark) (law : Lawful order.before) wher
       none : (k : ℕ) → 0 ≡ count_at (replicate 8 0) k
       none = all_same (λ z. z) 0 8
 
-  -- an answer that was accepted
-  pub granted : (o : Option Refusal) (x z : Tables) → Ok z ≡ unless o x → (o ≡ None) × (z ≡ x)
-  granted None x z e = (refl, cc)
-  granted (Some f) x z e = let w : ◌≡◌ {A = ℕ} 0 1 = cc in absurd (omega arith)
-
-  module _ (x : Tables) (old new : Contents Mark) (st : new ≡ kept_if (unaccepted order x old) old (cleared order old)) where
-    set_up_reached : (r : Result System Refusal) → told r ≡ unless (unaccepted order x old) x → IfOk r (λ y. Reached order y new [])
-    set_up_reached (Ok y) e =
-        let g = granted (unaccepted order x old) x (said y) e in
-        subst (λ z. Reached order y z []) (sym (st ∙ ap (λ o. kept_if o old (cleared order old)) g.0))
-        (starts y old (ap (λ z. unaccepted order z old) g.1 ∙ g.0))
-    set_up_reached (Err f) e = tt
-
-    set_up_kept : (r : Result System Refusal) → IfOk r (λ y. Kept (plan_of order y) [])
-    set_up_kept (Ok y) = kept (plan_of order y) law []
-    set_up_kept (Err f) = tt
-
-    pub set_up_all : (r : Result System Refusal) → told r ≡ unless (unaccepted order x old) x → SetUp order x old new r
-    set_up_all r e = record { replies = e; stores = st; reaches = set_up_reached r e; promise = set_up_kept r }
+  pub set_up_all : {O : Type 0} (y : System) (old new : Arbiter O Mark) (r : Result Unit Refusal) (o : Option Refusal) → unaccepted order (said y) (contents old) ≡ o
+      → r ≡ unless o tt → new.system ≡ kept_if o old.system y → contents new ≡ kept_if o (contents old) (cleared order (contents old)) → SetUp order y old new r
+  set_up_all y old new r None is re fi st = record {
+    replies = re ∙ ap (λ o. unless o tt) (sym is);
+    fixes = fi ∙ ap (λ o. kept_if o old.system y) (sym is);
+    stores = st ∙ ap (λ o. kept_if o (contents old) (cleared order (contents old))) (sym is);
+    reaches = subst (λ r. IfOk r (λ _. Reached order new.system (contents new) [])) (sym re)
+        (subst (λ z. Reached order z (contents new) []) (sym fi) (subst (λ m. Reached order y m []) (sym st) (starts y (contents old) is)));
+    promise = subst (λ r. IfOk r (λ _. Kept (plan_of order new.system) [])) (sym re) (kept (plan_of order new.system) law []);
+  }
+  set_up_all y old new r (Some f) is re fi st = record {
+    replies = re ∙ ap (λ o. unless o tt) (sym is);
+    fixes = fi ∙ ap (λ o. kept_if o old.system y) (sym is);
+    stores = st ∙ ap (λ o. kept_if o (contents old) (cleared order (contents old))) (sym is);
+    reaches = subst (λ r. IfOk r (λ _. Reached order new.system (contents new) [])) (sym re) tt;
+    promise = subst (λ r. IfOk r (λ _. Kept (plan_of order new.system) [])) (sym re) tt;
+  }

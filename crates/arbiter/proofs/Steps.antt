@@ -18,7 +18,7 @@ use Rattle.model.specs.Rules.{Question, scheduled_set_of, condition_of_job, acti
 use Rattle.model.specs.Promise.{Accepted}
 use Rattle.model.proofs.Basics.{put-there}
 use Rattle.model.proofs.Runs.{kept}
-use Rattle.cluster.specs.declared.Entry.{Entry}
+use Rattle.order.specs.declared.Entry.{Entry}
 use Rattle.cluster.specs.Listing.{Listed, part, with_part, fits, entered, entered_count, departed, departed_count}
 use Rattle.cluster.proofs.Keep.{listed_apart}
 use Rattle.cluster.proofs.Moves.{arrives, leaves, length-entered, length-closed}

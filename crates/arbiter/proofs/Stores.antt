@@ -10,7 +10,7 @@ use Rattle.model.specs.declared.Condition.{Condition}
 use Rattle.model.specs.Words.{State}
 use Rattle.model.specs.Rules.{put}
 use Rattle.model.proofs.Basics.{put-here, put-there, by_point}
-use Rattle.cluster.specs.declared.Entry.{Entry}
+use Rattle.order.specs.declared.Entry.{Entry}
 use Rattle.cluster.specs.declared.Job.{Job}
 use Rattle.cluster.specs.Listing.{Listed, part, with_part}
 use Rattle.cluster.specs.Claims.{Shows}

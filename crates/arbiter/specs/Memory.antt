@@ -1,6 +1,7 @@
 -- What the lent memory holds, and what each call makes of it.
-use Rattle.std.specs.Prelude.{◌≡◌, ℕ, ◌*◌, ◌/◌, ◌%◌, ◌^◌, Bool, cond, not, ◌&&◌, ◌||◌, List, [], ◌∷◌, length, take, set, Some, None, Option, Result, ◌==◌, nat_lt}
+use Rattle.std.specs.Prelude.{◌≡◌, ℕ, ◌*◌, Bool, cond, not, ◌&&◌, ◌||◌, List, [], ◌∷◌, length, replicate, take, set, Some, None, Option, Result, nat_lt}
 use Rattle.std.specs.List.{slice_get}
+use Rattle.task_set.specs.Sets.{bits}
 use Rattle.order.specs.Urgency.{Urgency}
 use Rattle.model.specs.declared.Task.{Task}
 use Rattle.model.specs.declared.Condition.{Condition}
@@ -13,7 +14,7 @@ use Rattle.model.specs.declared.Refusal.{Refusal}
 use Rattle.model.specs.declared.Refusal.TheVariants.{MemoryTooSmall, NoSuchTask, AlreadyPending, NotPending, NotScheduled, NoSuchCluster}
 use Rattle.model.specs.Words.{Plan, is_pending}
 use Rattle.model.specs.Rules.{first_of, unless, kept_if}
-use Rattle.cluster.specs.declared.Entry.{Entry}
+use Rattle.order.specs.declared.Entry.{Entry}
 use Rattle.cluster.specs.declared.Job.{Job}
 use Rattle.cluster.specs.Listing.{part, with_part, fits, entered, entered_count, departed, departed_count}
 use Rattle.cluster.specs.Picks.{read, condition_at, picked_set}
@@ -30,9 +31,17 @@ pub record Contents (Mark : Type 0) : Type 0 where
 abbrev pub contents : {O Mark : Type 0} → Arbiter O Mark → Contents Mark
 contents a = record { jobs = a.jobs.now; places = a.places.now; counts = a.counts }
 
+-- lent slices, with no entry in any list
+abbrev pub begun : {Mark : Type 0} → List Job → List (Entry Mark) → Contents Mark
+begun jobs places = record { jobs = jobs; places = places; counts = replicate 8 0 }
+
 -- the lent slices are the same ones as before, so that what they hold is what the caller's memory holds
 abbrev pub SameLoans : {O Mark : Type 0} → Arbiter O Mark → Arbiter O Mark → Type 0
 SameLoans a b = (b.jobs.ghost_name ≡ a.jobs.ghost_name) × (b.places.ghost_name ≡ a.places.ghost_name)
+
+-- the lent slices and the system are the same ones as before
+abbrev pub Same : {O Mark : Type 0} → Arbiter O Mark → Arbiter O Mark → Type 0
+Same a b = (b.system ≡ a.system) × SameLoans a b
 
 -- how many entries the list of cluster k has
 abbrev pub count_at : List ℕ → ℕ → ℕ
@@ -88,7 +97,7 @@ becoming m t k = record { jobs = with_condition (slice_get m.jobs t) m.jobs t k;
 
 -- is task t in the set
 abbrev pub in_set : ℕ → ℕ → Bool
-in_set set t = nat_lt t 64 && set / 2 ^ t % 2 == 1
+in_set set t = nat_lt t 64 && bits set t
 
 module _ {Mark : Type 0} (order : Urgency Mark) (y : System) where
   -- it has no record for some task, or no place in some cluster's list; it is never enough for more than 64 tasks

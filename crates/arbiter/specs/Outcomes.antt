@@ -1,5 +1,5 @@
 -- A list of events, with each one's answer and each cluster's scheduled set after it.
-use Rattle.std.specs.Prelude.{◌≡◌, ℕ, min, List, [], ◌∷◌, ◌++◌, length, take, drop, Ok, Err, Result}
+use Rattle.std.specs.Prelude.{◌≡◌, ℕ, min, List, [], ◌∷◌, ◌++◌, length, map, take, drop, Ok, Err, Result}
 use Rattle.order.specs.Urgency.{Urgency}
 use Rattle.model.specs.declared.Event.{Event}
 use Rattle.model.specs.declared.Refusal.{Refusal}
@@ -18,7 +18,7 @@ or_none (Err f) = 0
 
 -- f of 0 to 7
 abbrev pub eight : (ℕ → ℕ) → List ℕ
-eight f = f 0 ∷ f 1 ∷ f 2 ∷ f 3 ∷ f 4 ∷ f 5 ∷ f 6 ∷ f 7 ∷ []
+eight f = map f (0 ∷ 1 ∷ 2 ∷ 3 ∷ 4 ∷ 5 ∷ 6 ∷ 7 ∷ [])
 
 -- the calls with these events added, the newest first
 abbrev pub with_events : List Event → List Call → List Call

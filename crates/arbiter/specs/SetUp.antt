@@ -1,5 +1,6 @@
 -- What set-up tests, in its order, and what it leaves.
-use Rattle.std.specs.Prelude.{◌≡◌, ℕ, ◌*◌, Bool, false, not, ◌||◌, List, [], ◌∷◌, length, replicate, IfOk, None, Ok, Err, Option, Result, nat_lt}
+use Rattle.std.specs.Prelude.{◌≡◌, ℕ, ◌*◌, Bool, not, ◌||◌, List, [], ◌∷◌, length, replicate, IfOk, None, Option, Result, nat_lt}
+use Rattle.std.specs.List.{list_any}
 use Rattle.order.specs.Urgency.{Urgency}
 use Rattle.model.specs.declared.Task.{Task}
 use Rattle.model.specs.declared.Condition.TheVariants.{Idle}
@@ -9,25 +10,21 @@ use Rattle.model.specs.Rules.{first_of, unless, kept_if}
 use Rattle.model.specs.Promise.{Kept}
 use Rattle.cluster.specs.declared.Job.{Job}
 use Rattle.arbiter.specs.declared.System.{System}
-use Rattle.arbiter.specs.Memory.{Tables, said, Contents, plan_of}
+use Rattle.arbiter.specs.declared.Arbiter.{Arbiter}
+use Rattle.arbiter.specs.Memory.{Tables, said, Contents, contents, plan_of}
 use Rattle.arbiter.specs.Meaning.{Reached}
 
 -- n is not one of low to high
 abbrev pub outside : ℕ → ℕ → ℕ → Bool
 outside low high n = nat_lt n low || nat_lt high n
 
--- some element passes the test
-abbrev pub some_of : {A : Type 0} → (A → Bool) → List A → Bool
-some_of p [] = false
-some_of p (x ∷ xs) = p x || some_of p xs
-
 -- some task's cluster is not there
 abbrev pub absent : ℕ → List Task → Bool
-absent clusters ts = some_of (λ t. not (nat_lt t.cluster clusters)) ts
+absent clusters ts = list_any (λ t. not (nat_lt t.cluster clusters)) ts
 
 -- some task's parameter does not fit
 abbrev pub unfit : (ℕ → Bool) → List Task → Bool
-unfit fits ts = some_of (λ t. not (fits t.parameter)) ts
+unfit fits ts = list_any (λ t. not (fits t.parameter)) ts
 
 -- a job's record as set-up leaves it
 abbrev pub idle_job : Job
@@ -45,14 +42,10 @@ module _ {Mark : Type 0} (order : Urgency Mark) where
   abbrev pub cleared : Contents Mark → Contents Mark
   cleared m = record { jobs = replicate (length m.jobs) idle_job; places = m.places; counts = replicate 8 0 }
 
--- what the system in set-up's answer says
-abbrev pub told : Result System Refusal → Result Tables Refusal
-told (Ok y) = Ok (said y)
-told (Err f) = Err f
-
--- set-up: its answer and the memory after it; where it is accepted, the memory is reached by no call yet, and the promise holds
-pub record SetUp {Mark : Type 0} (order : Urgency Mark) (x : Tables) (old new : Contents Mark) (r : Result System Refusal) : Type 0 where
-  pub replies : told r ≡ unless (unaccepted order x old) x
-  pub stores : new ≡ kept_if (unaccepted order x old) old (cleared order old)
-  pub reaches : IfOk r (λ y. Reached order y new [])
-  pub promise : IfOk r (λ y. Kept (plan_of order y) [])
+-- set-up: its answer, the system and the memory after it; where it is accepted, the memory is reached by no call yet, and the promise holds
+pub record SetUp {O Mark : Type 0} (order : Urgency Mark) (y : System) (old new : Arbiter O Mark) (r : Result Unit Refusal) : Type 0 where
+  pub replies : r ≡ unless (unaccepted order (said y) (contents old)) tt
+  pub fixes : new.system ≡ kept_if (unaccepted order (said y) (contents old)) old.system y
+  pub stores : contents new ≡ kept_if (unaccepted order (said y) (contents old)) (contents old) (cleared order (contents old))
+  pub reaches : IfOk r (λ _. Reached order new.system (contents new) [])
+  pub promise : IfOk r (λ _. Kept (plan_of order new.system) [])

@@ -1,33 +1,39 @@
 // The arbiter: which jobs run on which cluster of processors.
 #![tactic(auto)]
 
-ghost use Rattle.std.specs.Prelude.{◌≡◌, ◌≤◌, length, replicate};
-ghost use Rattle.arbiter.specs.Memory.{contents, SameLoans, tables, count_at as CountAt, cluster_at as ClusterAt, parameter_at as ParameterAt, task_count as TaskCountOf, too_small as TooSmall, running, in_set as InSet, becoming, with_entry as WithEntry, without_entry as WithoutEntry, turned_away as TurnedAway, stored, replied, afterwards, asked_set as AskedSetOf};
-ghost use Rattle.arbiter.specs.SetUp.{absent, unfit, idle_job as IdleJob, unaccepted, SetUp};
-ghost use Rattle.arbiter.specs.Outcomes.{or_none as OrNone, sets, outcome as OutcomeOf, Ran};
+ghost use Rattle.std.specs.Prelude.{◌≡◌, ◌*◌, ◌-◌, ◌^◌, [], min};
+ghost use Rattle.arbiter.specs.Memory.{contents, SameLoans, Same, said, tables, begun, count_at, cluster_at, parameter_at, task_count, too_small, running, in_set, becoming, with_entry, without_entry, turned_away, stored, afterwards, asked_set};
+ghost use Rattle.arbiter.specs.SetUp.{absent, unfit, unaccepted, SetUp};
+ghost use Rattle.arbiter.specs.Outcomes.{or_none, sets, outcome as outcome_of, Ran};
 ghost use Rattle.arbiter.specs.Meaning.{Acted, AskedSet, AskedCondition};
 ghost use Rattle.std.specs.List.{slice_get};
 ghost use Rattle.model.specs.Rules.{unless};
-ghost use Rattle.cluster.specs.Picks.{condition_at as ConditionAt};
+ghost use Rattle.cluster.specs.Picks.{condition_at};
 
-use cluster::{Entry, Job, fetch, store};
+use cluster::{Job, Span, store};
 use model::{Answer, Condition, Event, Refusal, Task};
-use order::Order;
+use order::{Entry, Order};
+use task_set::TaskSet;
 
 /// What set-up fixes: the clusters, the processors of each, and the table of tasks.
-#[derive(Drop)]
+#[derive(Clone, Copy)]
 pub struct System<'a> {
     pub clusters: u8,
     pub cluster_size: u8,
     pub tasks: &'a [Task],
 }
 
-/// The arbiter's memory, lent by its caller: a record for each task, and for each cluster a list
-/// of its pending jobs with a place for each task. `counts` has how many entries each list has.
+// No `impl Model`: a clause has to name the loans too, and a view would leave them out.
+/// An arbiter of a system, with the memory that its caller lends: a record for each task, and for
+/// each cluster a list of its pending jobs with a place for each task. `counts` has how many
+/// entries each list has.
 #[derive(Drop)]
-pub struct Arbiter<'a, O: Order> {
+pub struct Arbiter<'a, 't, O: Order> {
+    pub system: System<'t>,
+    // Beside the table and not in it: the table is only read, and has a life of its own.
     pub jobs: &'a mut [Job],
     pub places: &'a mut [Entry<O::Mark>],
+    // Beside the places and not in them: a list has as many places as there are tasks.
     pub counts: [usize; 8],
 }
 
@@ -41,170 +47,144 @@ pub struct Outcome {
 impl System<'_> {
     // The cluster of a task.
     fn cluster_of(&self, task: u8) -> u8
-        ensures { result ≡ ClusterAt self.now.tasks.now task }
+        ensures { result ≡ cluster_at self.now.tasks.now task }
     {
-        match fetch(self.tasks, task) {
-            Some(t) => t.cluster,
-            None => 0,
-        }
+        self.tasks.get(usize::from(task)).map_or(0, |t| t.cluster)
     }
 
     // The parameter of a task.
     fn parameter_of(&self, task: u8) -> u32
-        ensures { result ≡ ParameterAt self.now.tasks.now task }
+        ensures { result ≡ parameter_at self.now.tasks.now task }
     {
-        match fetch(self.tasks, task) {
-            Some(t) => t.parameter,
-            None => 0,
+        self.tasks.get(usize::from(task)).map_or(0, |t| t.parameter)
+    }
+
+    // Whether some task's cluster is not there.
+    fn misses_a_cluster(&self) -> bool
+        ensures { result ≡ absent self.now.clusters self.now.tasks.now }
+    {
+        self.tasks.iter().any(|t| t.cluster >= self.clusters)
+    }
+
+    // Whether some task's parameter does not fit the order.
+    fn has_unfit_parameter<O: Order>(&self) -> bool
+        ensures { result ≡ unfit O.Order.urgency.fits self.now.tasks.now }
+    {
+        self.tasks.iter().any(|t| !O::fits(t.parameter))
+    }
+}
+
+// `Same` stands in each that writes: it compares an arbiter with itself before, no invariant can.
+impl<'a, 't, O: Order> Arbiter<'a, 't, O> {
+    /// An arbiter of no system yet, in memory that its caller lends.
+    pub fn new(jobs: &'a mut [Job], places: &'a mut [Entry<O::Mark>]) -> Arbiter<'a, 't, O>
+        ensures system { said result.system ≡ tables 0 0 [] }
+        ensures memory { contents result ≡ begun jobs.old places.old }
+        ensures loans { (result.jobs.ghost_name ≡ jobs.entry.ghost_name) × (result.places.ghost_name ≡ places.entry.ghost_name) }
+    {
+        Arbiter {
+            system: System {
+                clusters: 0,
+                cluster_size: 0,
+                tasks: &[],
+            },
+            jobs,
+            places,
+            counts: [0; 8],
         }
     }
-}
 
-// Whether some task's cluster is not there.
-fn cluster_absent(clusters: u8, tasks: &[Task]) -> bool
-    ensures { result ≡ absent clusters tasks.now }
-{
-    for task in tasks {
-        if task.cluster >= clusters {
-            return true;
-        }
-    }
-    false
-}
-
-// Whether some task's parameter does not fit the order.
-fn parameter_unfit<O: Order>(tasks: &[Task]) -> bool
-    ensures { result ≡ unfit O.Order.urgency.fits tasks.now }
-{
-    for task in tasks {
-        if !O::fits(task.parameter) {
-            return true;
-        }
-    }
-    false
-}
-
-// Makes every record idle.
-fn clear(jobs: &mut [Job])
-    ensures { jobs.new ≡ replicate (length jobs.old) IdleJob }
-{
-    for job in jobs.iter_mut() {
-        *job = Job {
-            condition: Condition::Idle,
-            donor: None,
-            recipient: None,
-        };
-    }
-}
-
-impl<O: Order> Arbiter<'_, O> {
     // Why set-up is turned away: the first test that fails, each over its whole table.
-    fn refuse(&self, clusters: u8, cluster_size: u8, tasks: &[Task]) -> Option<Refusal>
-        ensures { result ≡ unaccepted O.Order.urgency (tables clusters cluster_size tasks.now) (contents self.now) }
+    fn accept(&self, system: &System<'_>) -> Result<(), Refusal>
+        ensures { result ≡ unless (unaccepted O.Order.urgency (said system.now) (contents self.now)) tt }
     {
-        let n = tasks.len();
-        if clusters < 1 || clusters > 8 {
-            return Some(Refusal::ClusterCount);
+        let n = system.tasks.len();
+        if !matches!(system.clusters, 1..=8) {
+            return Err(Refusal::ClusterCount);
         }
-        if cluster_size < 1 || cluster_size > 8 {
-            return Some(Refusal::ClusterSize);
+        if !matches!(system.cluster_size, 1..=8) {
+            return Err(Refusal::ClusterSize);
         }
-        if n < 1 || n > 64 {
-            return Some(Refusal::TaskCount);
+        if !matches!(n, 1..=64) {
+            return Err(Refusal::TaskCount);
         }
-        if self.jobs.len() < n || self.places.len() < usize::from(clusters) * n {
-            return Some(Refusal::MemoryTooSmall);
+        if self.is_too_small_for(system) {
+            return Err(Refusal::MemoryTooSmall);
         }
-        if cluster_absent(clusters, tasks) {
-            return Some(Refusal::ClusterAbsent);
+        if system.misses_a_cluster() {
+            return Err(Refusal::ClusterAbsent);
         }
-        if parameter_unfit::<O>(tasks) {
-            return Some(Refusal::ParameterUnfit);
+        if system.has_unfit_parameter::<O>() {
+            return Err(Refusal::ParameterUnfit);
         }
-        None
+        Ok(())
     }
 
-    /// Sets a system up: `clusters` clusters of `cluster_size` processors and a table of tasks.
-    /// Every task is idle then. A refusal changes nothing.
-    pub fn set_up<'t>(
-        &mut self,
-        clusters: u8,
-        cluster_size: u8,
-        tasks: &'t [Task],
-    ) -> Result<System<'t>, Refusal>
-        ensures result { SetUp O.Order.urgency (tables clusters cluster_size tasks.now) (contents self.old) (contents self.new) result }
+    /// Sets a system up. Every task is idle then. A refusal changes nothing.
+    pub fn set_up(&mut self, system: System<'t>) -> Result<(), Refusal>
+        ensures result { SetUp O.Order.urgency system.entry self.old self.new result }
         ensures loans { SameLoans self.old self.new }
     {
-        if let Some(refusal) = self.refuse(clusters, cluster_size, tasks) {
-            return Err(refusal);
-        }
-        clear(self.jobs);
+        self.accept(&system)?;
+        self.jobs.fill(Job::IDLE);
         self.counts = [0; 8];
-        Ok(System {
-            clusters,
-            cluster_size,
-            tasks,
-        })
+        self.system = system;
+        Ok(())
     }
 
     // Whether there is no record for some task or no place for it in some list.
-    fn too_small(&self, system: &System<'_>) -> bool
-        ensures { result ≡ TooSmall O.Order.urgency system.now (contents self.now) }
+    fn is_too_small_for(&self, system: &System<'_>) -> bool
+        ensures { result ≡ too_small O.Order.urgency system.now (contents self.now) }
     {
         let n = system.tasks.len();
-        if n > 64 || self.jobs.len() < n {
-            return true;
-        }
-        self.places.len() < usize::from(system.clusters) * n
+        n > 64 || self.jobs.len() < n || self.places.len() < usize::from(system.clusters) * n
     }
 
     // The record of a task's job.
     fn job_of(&self, task: u8) -> Option<Job>
         ensures { result ≡ slice_get (contents self.now).jobs task }
     {
-        fetch(self.jobs, task)
+        self.jobs.get(usize::from(task)).copied()
     }
 
     // The condition of a task, by its record.
     fn condition_of(&self, task: u8) -> Condition
-        ensures { result ≡ ConditionAt (contents self.now).jobs task }
+        ensures { result ≡ condition_at (contents self.now).jobs task }
     {
-        match self.job_of(task) {
-            Some(job) => job.condition,
-            None => Condition::Idle,
-        }
+        self.job_of(task)
+            .map_or(Condition::Idle, |job| job.condition)
     }
 
-    // How many entries a cluster's list has.
-    fn count_of(&self, cluster: u8) -> usize
-        ensures { result ≡ CountAt self.now.counts cluster }
+    // Where a cluster's list lies. A start that is too large for a number is beyond all places.
+    fn span_of(&self, cluster: u8) -> Span
+        ensures from { result.from ≡ min (cluster * task_count self.now.system) (2 ^ 64 - 1) }
+        ensures room { result.room ≡ task_count self.now.system }
+        ensures used { result.used ≡ count_at self.now.counts cluster }
     {
-        match fetch(&self.counts, cluster) {
-            Some(count) => count,
-            None => 0,
+        let room = self.system.tasks.len();
+        Span {
+            from: usize::from(cluster).saturating_mul(room),
+            room,
+            used: self.counts.get(usize::from(cluster)).copied().unwrap_or(0),
         }
     }
 
     // The tasks that run on a cluster.
-    fn running(&self, system: &System<'_>, cluster: u8) -> u64
-        requires { TaskCountOf system.now ≤ 64 }
-        ensures { result ≡ running O.Order.urgency system.now (contents self.now) cluster }
+    fn running(&self, cluster: u8) -> TaskSet
+        ensures { result.bits ≡ running O.Order.urgency self.now.system (contents self.now) cluster }
     {
-        let n = system.tasks.len();
         cluster::scheduled_set::<O>(
             self.jobs,
             self.places,
-            usize::from(cluster) * n,
-            n,
-            self.count_of(cluster),
-            usize::from(system.cluster_size),
+            self.span_of(cluster),
+            usize::from(self.system.cluster_size),
         )
     }
 
     // Changes the condition in a task's record.
     fn set_condition(&mut self, task: u8, condition: Condition)
         ensures memory { contents self.new ≡ becoming (contents self.old) task condition }
-        ensures loans { SameLoans self.old self.new }
+        ensures same { Same self.old self.new }
     {
         if let Some(mut job) = self.job_of(task) {
             job.condition = condition;
@@ -213,187 +193,155 @@ impl<O: Order> Arbiter<'_, O> {
     }
 
     // Puts a job into its cluster's list.
-    fn enter(&mut self, system: &System<'_>, cluster: u8, entry: Entry<O::Mark>)
-        requires { TaskCountOf system.now ≤ 64 }
-        ensures memory { contents self.new ≡ WithEntry O.Order.urgency system.now (contents self.old) cluster entry }
-        ensures loans { SameLoans self.old self.new }
+    fn enter(&mut self, cluster: u8, entry: Entry<O::Mark>)
+        ensures memory { contents self.new ≡ with_entry O.Order.urgency self.old.system (contents self.old) cluster entry }
+        ensures same { Same self.old self.new }
     {
-        let n = system.tasks.len();
-        let used = self.count_of(cluster);
-        let count = cluster::enter::<O>(self.places, usize::from(cluster) * n, n, used, entry);
+        let list = self.span_of(cluster);
+        let count = cluster::enter::<O>(self.places, list, entry);
         store(&mut self.counts, cluster, count);
     }
 
     // Takes a task's job out of its cluster's list.
-    fn depart(&mut self, system: &System<'_>, cluster: u8, task: u8)
-        requires { TaskCountOf system.now ≤ 64 }
-        ensures memory { contents self.new ≡ WithoutEntry O.Order.urgency system.now (contents self.old) cluster task }
-        ensures loans { SameLoans self.old self.new }
+    fn depart(&mut self, cluster: u8, task: u8)
+        ensures memory { contents self.new ≡ without_entry O.Order.urgency self.old.system (contents self.old) cluster task }
+        ensures same { Same self.old self.new }
     {
-        let n = system.tasks.len();
-        let used = self.count_of(cluster);
-        let count = cluster::depart::<O>(self.places, usize::from(cluster) * n, n, used, task);
+        let list = self.span_of(cluster);
+        let count = cluster::depart::<O>(self.places, list, task);
         store(&mut self.counts, cluster, count);
     }
 
     // Whether a task's job is scheduled.
-    fn is_scheduled(&self, system: &System<'_>, task: u8) -> bool
-        requires { TaskCountOf system.now ≤ 64 }
-        ensures { result ≡ InSet (running O.Order.urgency system.now (contents self.now) (ClusterAt system.now.tasks.now task)) task }
+    fn is_scheduled(&self, task: u8) -> bool
+        ensures { result ≡ in_set (running O.Order.urgency self.now.system (contents self.now) (cluster_at self.now.system.tasks.now task)) task }
     {
-        let set = self.running(system, system.cluster_of(task));
-        task < 64 && (set >> task) % 2 == 1
+        self.running(self.system.cluster_of(task)).contains(task)
     }
 
     // Why an event is turned away: the first condition met decides.
-    fn check(&self, system: &System<'_>, event: Event) -> Result<(), Refusal>
-        ensures { result ≡ unless (TurnedAway O.Order.urgency system.now (contents self.now) event) tt }
+    fn check(&self, event: Event) -> Result<(), Refusal>
+        ensures { result ≡ unless (turned_away O.Order.urgency self.now.system (contents self.now) event) tt }
     {
         let task = event.task();
         match (self.condition_of(task), event) {
-            _ if self.too_small(system) => Err(Refusal::MemoryTooSmall),
-            _ if usize::from(task) >= system.tasks.len() => Err(Refusal::NoSuchTask),
+            _ if self.is_too_small_for(&self.system) => Err(Refusal::MemoryTooSmall),
+            _ if usize::from(task) >= self.system.tasks.len() => Err(Refusal::NoSuchTask),
             (Condition::Idle, Event::Release { .. }) => Ok(()),
             (_, Event::Release { .. }) => Err(Refusal::AlreadyPending),
             (Condition::Idle, Event::Finish { .. }) => Err(Refusal::NotPending),
-            (_, Event::Finish { .. }) if !self.is_scheduled(system, task) => Err(
-                Refusal::NotScheduled,
-            ),
+            (_, Event::Finish { .. }) if !self.is_scheduled(task) => Err(Refusal::NotScheduled),
             (_, Event::Finish { .. }) => Ok(()),
         }
     }
 
     // What an accepted event does.
-    fn apply(&mut self, system: &System<'_>, event: Event)
-        requires { TaskCountOf system.now ≤ 64 }
-        ensures memory { contents self.new ≡ stored O.Order.urgency system.now (contents self.old) event }
-        ensures loans { SameLoans self.old self.new }
+    fn apply(&mut self, event: Event)
+        ensures memory { contents self.new ≡ stored O.Order.urgency self.old.system (contents self.old) event }
+        ensures same { Same self.old self.new }
     {
+        let system = self.system;
         match event {
             Event::Release { task, instant } => {
                 let mark = O::mark(system.parameter_of(task), instant);
                 self.set_condition(task, Condition::Computing);
-                self.enter(system, system.cluster_of(task), Entry { mark, task });
+                self.enter(system.cluster_of(task), Entry { mark, task });
             }
             Event::Finish { task } => {
                 self.set_condition(task, Condition::Idle);
-                self.depart(system, system.cluster_of(task), task);
+                self.depart(system.cluster_of(task), task);
             }
         }
     }
 
-    // One event, tested and then done.
-    fn perform(&mut self, system: &System<'_>, event: Event) -> Result<Answer, Refusal>
-        ensures replies { result ≡ replied O.Order.urgency system.now (contents self.old) event }
-        ensures stores { contents self.new ≡ afterwards O.Order.urgency system.now (contents self.old) event }
-        ensures loans { SameLoans self.old self.new }
+    /// One event. A refused one changes nothing.
+    pub fn act(&mut self, event: Event) -> Result<Answer, Refusal>
+        ensures acted { Acted O.Order.urgency self.old.system event (contents self.old) (contents self.new) result }
+        ensures same { Same self.old self.new }
     {
-        self.check(system, event)?;
-        self.apply(system, event);
+        self.check(event)?;
+        self.apply(event);
         Ok(Answer::Accepted)
     }
 
-    /// One event. A refused one changes nothing.
-    pub fn act(&mut self, system: &System<'_>, event: Event) -> Result<Answer, Refusal>
-        ensures acted { Acted O.Order.urgency system.now event (contents self.old) (contents self.new) result }
-        ensures loans { SameLoans self.old self.new }
-    {
-        self.perform(system, event)
-    }
-
     /// The job of a task is released at an instant.
-    pub fn release(
-        &mut self,
-        system: &System<'_>,
-        task: u8,
-        instant: u32,
-    ) -> Result<Answer, Refusal>
-        ensures acted { Acted O.Order.urgency system.now (Event.Release task instant) (contents self.old) (contents self.new) result }
-        ensures loans { SameLoans self.old self.new }
+    pub fn release(&mut self, task: u8, instant: u32) -> Result<Answer, Refusal>
+        ensures acted { Acted O.Order.urgency self.old.system (Event.Release task instant) (contents self.old) (contents self.new) result }
+        ensures same { Same self.old self.new }
     {
-        self.act(system, Event::Release { task, instant })
+        self.act(Event::Release { task, instant })
     }
 
     /// The job of a task finishes.
-    pub fn finish(&mut self, system: &System<'_>, task: u8) -> Result<Answer, Refusal>
-        ensures acted { Acted O.Order.urgency system.now (Event.Finish task) (contents self.old) (contents self.new) result }
-        ensures loans { SameLoans self.old self.new }
+    pub fn finish(&mut self, task: u8) -> Result<Answer, Refusal>
+        ensures acted { Acted O.Order.urgency self.old.system (Event.Finish task) (contents self.old) (contents self.new) result }
+        ensures same { Same self.old self.new }
     {
-        self.act(system, Event::Finish { task })
+        self.act(Event::Finish { task })
     }
 
     /// A cluster's scheduled tasks, bit t for task t.
-    pub fn scheduled(&self, system: &System<'_>, cluster: u8) -> Result<u64, Refusal>
-        ensures { AskedSet O.Order.urgency system.now cluster (contents self.now) result }
+    pub fn scheduled(&self, cluster: u8) -> Result<u64, Refusal>
+        ensures { AskedSet O.Order.urgency self.now.system cluster (contents self.now) result }
     {
-        if self.too_small(system) {
+        if self.is_too_small_for(&self.system) {
             return Err(Refusal::MemoryTooSmall);
         }
-        if cluster >= system.clusters {
+        if cluster >= self.system.clusters {
             return Err(Refusal::NoSuchCluster);
         }
-        Ok(self.running(system, cluster))
+        Ok(self.running(cluster).into())
     }
 
     /// A task's condition.
-    pub fn condition(&self, system: &System<'_>, task: u8) -> Result<Condition, Refusal>
-        ensures { AskedCondition O.Order.urgency system.now task (contents self.now) result }
+    pub fn condition(&self, task: u8) -> Result<Condition, Refusal>
+        ensures { AskedCondition O.Order.urgency self.now.system task (contents self.now) result }
     {
-        if self.too_small(system) {
+        if self.is_too_small_for(&self.system) {
             return Err(Refusal::MemoryTooSmall);
         }
-        if usize::from(task) >= system.tasks.len() {
+        if usize::from(task) >= self.system.tasks.len() {
             return Err(Refusal::NoSuchTask);
         }
         Ok(self.condition_of(task))
     }
 
     // A cluster's scheduled tasks, or none where there is no such cluster.
-    fn set_of(&self, system: &System<'_>, cluster: u8) -> u64
-        ensures { result ≡ OrNone (AskedSetOf O.Order.urgency system.now (contents self.now) cluster) }
+    fn set_of(&self, cluster: u8) -> u64
+        ensures { result ≡ or_none (asked_set O.Order.urgency self.now.system (contents self.now) cluster) }
     {
-        match self.scheduled(system, cluster) {
-            Ok(set) => set,
-            Err(_) => 0,
-        }
+        self.scheduled(cluster).unwrap_or(0)
     }
 
     // Each cluster's scheduled tasks.
-    fn sets(&self, system: &System<'_>) -> [u64; 8]
-        ensures { result ≡ sets O.Order.urgency system.now (contents self.now) }
+    fn sets(&self) -> [u64; 8]
+        ensures { result ≡ sets O.Order.urgency self.now.system (contents self.now) }
     {
-        [
-            self.set_of(system, 0),
-            self.set_of(system, 1),
-            self.set_of(system, 2),
-            self.set_of(system, 3),
-            self.set_of(system, 4),
-            self.set_of(system, 5),
-            self.set_of(system, 6),
-            self.set_of(system, 7),
-        ]
+        [0, 1, 2, 3, 4, 5, 6, 7].map(|cluster| self.set_of(cluster))
     }
 
     // One event, and what it came to.
-    fn outcome(&mut self, system: &System<'_>, event: Event) -> Outcome
-        ensures value { result ≡ OutcomeOf O.Order.urgency system.now (contents self.old) event }
-        ensures stores { contents self.new ≡ afterwards O.Order.urgency system.now (contents self.old) event }
-        ensures loans { SameLoans self.old self.new }
+    fn outcome(&mut self, event: Event) -> Outcome
+        ensures value { result ≡ outcome_of O.Order.urgency self.old.system (contents self.old) event }
+        ensures stores { contents self.new ≡ afterwards O.Order.urgency self.old.system (contents self.old) event }
+        ensures same { Same self.old self.new }
     {
-        let answer = self.act(system, event);
-        let scheduled = self.sets(system);
-        Outcome { answer, scheduled }
+        Outcome {
+            answer: self.act(event),
+            scheduled: self.sets(),
+        }
     }
 
     /// Runs a list of events, as many as there are places for their outcomes, and answers how
     /// many it ran.
-    pub fn run(&mut self, system: &System<'_>, events: &[Event], outcomes: &mut [Outcome]) -> usize
-        ensures ran { Ran O.Order.urgency system.now events.now outcomes.old (contents self.old) (contents self.new) outcomes.new result }
-        ensures loans { SameLoans self.old self.new }
+    pub fn run(&mut self, events: &[Event], outcomes: &mut [Outcome]) -> usize
+        ensures ran { Ran O.Order.urgency self.old.system events.now outcomes.old (contents self.old) (contents self.new) outcomes.new result }
+        ensures same { Same self.old self.new }
     {
         let n = events.len().min(outcomes.len());
-        for i in 0..n {
-            outcomes[i] = self.outcome(system, events[i]);
+        // By index: what a loop writes through a `zip` of `iter_mut` is not known behind it.
+        for (i, event) in events[..n].iter().enumerate() {
+            outcomes[i] = self.outcome(*event);
         }
         n
     }

@@ -1,10 +1,10 @@
+use Rattle.std.proofs.Common.{rules}
 use Rattle.arbiter.specs.Memory.{contents}
 use Rattle.arbiter.proofs.Steps.{acted}
 use Rattle.arbiter.proofs.Arbiter.act.Goals as goal
 
-pub returns : goal.returns
-returns g c = record {
-  acted = acted g.O.Order.urgency g.met.O.Order.lawful c.args.system.now c.args.event (contents c.args.self.now) _ c.perform.result
-      c.perform.ensures.replies c.perform.ensures.stores;
-  loans = c.perform.ensures.loans;
-}
+pub returns-in_err-check-clause-acted : goal.returns-in_err-check-clause-acted
+returns-in_err-check-clause-acted g c = acted g.O.Order.urgency g.met.O.Order.lawful c.args.self.now.system c.args.event (contents c.args.self.now) _ _ (search rules) (search rules)
+
+pub returns-clause-acted : goal.returns-clause-acted
+returns-clause-acted g c = acted g.O.Order.urgency g.met.O.Order.lawful c.args.self.now.system c.args.event (contents c.args.self.now) _ _ (search rules) (search rules)

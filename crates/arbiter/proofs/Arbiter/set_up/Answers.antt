@@ -1,28 +1,17 @@
-use Rattle.std.proofs.Common.{◌≡◌, Some, None, sym, refl, ap, ◌∙◌}
-use Rattle.model.specs.Rules.{unless, kept_if}
-use Rattle.arbiter.specs.Memory.{contents, tables}
-use Rattle.arbiter.specs.SetUp.{unaccepted, cleared}
-use Rattle.arbiter.proofs.Starts.{set_up_all}
+use Rattle.std.proofs.Common.{◌≡◌, Some, None, Ok, sym, refl, ◌∙◌, rules}
+use Rattle.arbiter.specs.Memory.{said, contents}
+use Rattle.arbiter.specs.SetUp.{unaccepted}
+use Rattle.arbiter.proofs.Starts.{set_up_all, refused-for, accepted-for}
 use Rattle.arbiter.proofs.Arbiter.set_up.Goals as goal
 
-pub returns-in-Some : goal.returns-in-Some
-returns-in-Some g c =
-    let x = tables c.args.clusters c.args.cluster_size c.args.tasks.now in
-    let m = contents c.args.self.now in
-    let e : unaccepted g.O.Order.urgency x m ≡ Some c.in-Some.refusal = sym c.in-Some.ensures in
-    record {
-      result = set_up_all g.O.Order.urgency g.met.O.Order.lawful x m m (sym (ap (λ o. kept_if o m (cleared g.O.Order.urgency m)) e)) _ (sym (ap (λ o. unless o x) e));
-      loans = (refl, refl);
-    }
+pub returns-in_err-accept-clause-result : goal.returns-in_err-accept-clause-result
+returns-in_err-accept-clause-result g c =
+    let order = g.O.Order.urgency in let f = c.in_err-accept.field-0.0 in
+    let e : unaccepted order (said c.args.system) (contents c.args.self.now) ≡ Some f = refused-for _ f (sym c.in_err-accept.was ∙ c.accept.ensures) in
+    set_up_all order g.met.O.Order.lawful c.args.system c.args.self.now c.args.self.now c.from_residual.result (Some f) e (search rules) refl refl
 
-pub returns : goal.returns
-returns g c =
-    let x = tables c.args.clusters c.args.cluster_size c.args.tasks.now in
-    let m = contents c.args.self.now in
-    let e : unaccepted g.O.Order.urgency x m ≡ None = sym c.in_default.ensures in
-    record {
-      result = set_up_all g.O.Order.urgency g.met.O.Order.lawful x m _
-          (ap (λ js. record { jobs = js; places = m.places; counts = (cleared g.O.Order.urgency m).counts }) c.clear.ensures ∙ sym (ap (λ o. kept_if o m (cleared g.O.Order.urgency m)) e))
-          _ (sym (ap (λ o. unless o x) e));
-      loans = (refl, refl);
-    }
+pub returns-clause-result : goal.returns-clause-result
+returns-clause-result g c =
+    let order = g.O.Order.urgency in
+    let e : unaccepted order (said c.args.system) (contents c.args.self.now) ≡ None = accepted-for _ (search rules) in
+    set_up_all order g.met.O.Order.lawful c.args.system c.args.self.now _ (Ok tt) None e refl refl (search rules)
