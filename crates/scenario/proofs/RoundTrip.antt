@@ -1,6 +1,5 @@
 -- The bytes of a scenario load as that scenario: each record is read back, with what follows it left.
-use Rattle.std.proofs.Common.{◌≡◌, ℕ, pred, ◌+◌, ◌-◌, ◌*◌, ◌/◌, ◌%◌, ◌^◌, ◌<◌, ◌≤◌, false, eqb, List, [], ◌∷◌, ◌++◌, length, drop, Some, None, Ok, sym, refl, ap, ◌∙◌, append_assoc, append-nil, add-zero, mod-eq_of_lt, arith, lit<, length-append, length-drop}
-use native.Mathlib.Nat.{div-div-eq-div-mul}
+use Rattle.std.proofs.Common.{◌≡◌, ℕ, pred, ◌+◌, ◌-◌, ◌*◌, ◌/◌, ◌%◌, ◌^◌, ◌<◌, ◌≤◌, false, eqb, List, [], ◌∷◌, ◌++◌, length, drop, Some, None, Ok, sym, refl, ap, ◌∙◌, append_assoc, append-nil, add-zero, arith, lit<, length-append, length-drop}
 use Rattle.std.specs.List.{flat_map, AllByRecursion}
 use Rattle.std.proofs.lemmas.List.{take_at, drop_at, drop-drop}
 use Rattle.std.proofs.lemmas.Bool.{le-ltb, le-leb, ne_eqb}
@@ -16,21 +15,9 @@ use Rattle.scenario.specs.Encoding.{encode_header, encode_task, encode_event, en
 use Rattle.scenario.proofs.Records.{whole, read, read-long}
 use Rattle.scenario.proofs.Onward.{one}
 
-parts : (m : ℕ) → m ≡ m / 256 * 256 + m % 256
-parts m = omega arith
-
-joined_bytes : (n a b c w x y z : ℕ) → n ≡ a * 256 + w → a ≡ b * 256 + x → b ≡ c * 256 + y → z ≡ c → w + x * 256 + y * 65536 + z * 16777216 ≡ n
-joined_bytes n a b c w x y z e₁ e₂ e₃ e₄ = omega arith
-
 -- four bytes give back their number
 word_back : (n : ℕ) → n < 2 ^ 32 → n % 256 + n / 256 % 256 * 256 + n / 65536 % 256 * 65536 + n / 16777216 % 256 * 16777216 ≡ n
-word_back n h =
-    let x₁ = parts n in
-    let x₂ : n / 256 ≡ n / 65536 * 256 + n / 256 % 256 = rw (div-div-eq-div-mul n 256 256) at (parts (n / 256)) in
-    let x₃ : n / 65536 ≡ n / 16777216 * 256 + n / 65536 % 256 = rw (div-div-eq-div-mul n 65536 256) at (parts (n / 65536)) in
-    let top : n / 16777216 < 256 = omega arith in
-    let x₄ : n / 16777216 % 256 ≡ n / 16777216 = mod-eq_of_lt top in
-    joined_bytes n (n / 256) (n / 65536) (n / 16777216) (n % 256) (n / 256 % 256) (n / 65536 % 256) (n / 16777216 % 256) x₁ x₂ x₃ x₄
+word_back n h = omega arith
 
 header-back : (h : HeaderOf) (rest : List ℕ) → Ok (Header h, rest) ≡ record_at (encode_header h ++ rest)
 header-back h rest = rw (le-ltb (length (encode_header h ++ rest)) 4 (omega arith))
@@ -130,5 +117,5 @@ round_trip h ts es ft fe =
     ∙ tasks-back ts es file 4 (pred (length file)) h [] ft fe o
     ∙ ap (script h ts es) k
 
-pub reads-back : (file : List ℕ) (s : Loaded) → s ≡ loaded file → ReadsBack file s
-reads-back file s e h ts es fh ft fe f = e ∙ ap loaded f ∙ round_trip h ts es ft fe
+pub reads_back : (file : List ℕ) (s : Loaded) → s ≡ loaded file → ReadsBack file s
+reads_back file s e h ts es fh ft fe f = e ∙ ap loaded f ∙ round_trip h ts es ft fe

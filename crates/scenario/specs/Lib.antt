@@ -1,3 +1,5 @@
 pub mod Format
+pub mod Reading
 pub mod Loading
+pub mod Ends
 pub mod Encoding

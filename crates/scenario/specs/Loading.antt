@@ -17,7 +17,7 @@ pub record Loaded : Type 0 where
   pub tasks : List TaskOf
   pub events : List EventOf
   pub start : ℕ
-  pub stop : Option Stop
+  pub stop : Option (Stop Fault)
 
 -- what the code's script holds
 abbrev pub script_view : Script → Loaded
@@ -51,7 +51,7 @@ taken s p v (Some f) = s
 
 -- the script that stops at p
 abbrev pub stopped : Loaded → Fault → ℕ → Loaded
-stopped s f p = record { header = s.header; tasks = s.tasks; events = s.events; start = s.start; stop = Some (record { fault = f; at = p }) }
+stopped s f p = record { header = s.header; tasks = s.tasks; events = s.events; start = s.start; stop = Some (record { cause = f; at = p }) }
 
 -- the script at the end p of the file: one with no header stops there
 abbrev pub ended : Loaded → ℕ → Loaded

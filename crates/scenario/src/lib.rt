@@ -1,19 +1,24 @@
 // The scenario file: its records, their reader, and the loader that puts them together.
 #![tactic(auto)]
 
-ghost use Rattle.std.specs.Prelude.{◌≡◌, IfOk};
-ghost use Rattle.scenario.specs.Format.{fault_number as FaultNumber, record_at, split_view, next_at, place_after, part_view};
+ghost use Rattle.std.specs.Prelude.{◌≡◌, ◌-◌, length, IfOk};
+ghost use Rattle.std.specs.Iterator.{at_most};
+ghost use Rattle.scenario.specs.declared.Failure.TheVariants.{OutOfMemory, Stopped};
+ghost use Rattle.scenario.specs.Format.{fault_number, record_at, split_view, next_at, place_after, part_view};
+ghost use Rattle.scenario.specs.Reading.{Reads, QuietAtEnd};
 ghost use Rattle.scenario.specs.Encoding.{ReadsBack};
-ghost use Rattle.scenario.specs.Loading.{script_view, misplaced as Misplaced, misplaced_in, taken, stopped as Stopped, ended as Ended, loaded};
+ghost use Rattle.scenario.specs.Loading.{script_view, misplaced_in, taken, loaded_from, loaded};
+ghost use Rattle.scenario.specs.Ends.{IsOutOfMemory, UnlessMemory, stop_at, stopped_by};
 
 use model::{Event, Task};
-use std::alloc::{AllocError, Global};
+use std::alloc::{AllocError, AllocFailed, Global};
 
 /// What a scenario says of the system as a whole.
 #[derive(Clone, Copy, PartialEq, Eq, Debug)]
 pub struct Header {
     pub clusters: u8,
     pub cluster_size: u8,
+    // A byte and no enum: an unknown order stops a file only at its first event.
     pub order: u8,
 }
 
@@ -25,37 +30,82 @@ pub enum Record {
     Event(Event),
 }
 
+// The number of the kind of a header.
+const HEADER: u8 = 1;
+
+// The number of the kind of a task.
+const TASK: u8 = 2;
+
 /// Why a file's records are read no further.
 #[derive(Clone, Copy, PartialEq, Eq, Debug)]
 pub enum Fault {
-    UnknownKind,
+    UnknownKind = 20,
     /// The file ends inside the record.
-    CutShort,
+    CutShort = 21,
     /// No header at the start, or a header elsewhere.
-    HeaderMisplaced,
+    HeaderMisplaced = 22,
     /// A task after the first event.
-    TooLate,
+    TooLate = 23,
 }
 
-impl Fault {
-    /// The number of the fault.
-    pub fn number(self) -> u8
-        ensures { result ≡ FaultNumber self }
+/// The number of the fault.
+impl From<Fault> for u8 {
+    ghost from_gives = { λ fault number. number ≡ fault_number fault };
+
+    fn from(fault: Fault) -> u8 {
+        fault as u8
+    }
+}
+
+/// What stopped the use of a file, and the place in the file.
+#[derive(Clone, Copy, PartialEq, Eq, Debug)]
+pub struct Stop<C> {
+    pub cause: C,
+    pub at: usize,
+}
+
+impl<C> Stop<C> {
+    /// The same stop, with its cause converted.
+    pub fn cause_into<D: From<C>>(self) -> Stop<D>
+        ensures cause { D.from_gives self.cause result.cause }
+        ensures at { result.at ≡ self.at }
     {
-        match self {
-            Fault::UnknownKind => 20,
-            Fault::CutShort => 21,
-            Fault::HeaderMisplaced => 22,
-            Fault::TooLate => 23,
+        Stop {
+            cause: self.cause.into(),
+            at: self.at,
         }
     }
 }
 
-/// A fault and the place of its record in the file.
-#[derive(Clone, Copy, PartialEq, Eq, Debug)]
-pub struct Stop {
-    pub fault: Fault,
-    pub at: usize,
+/// Why no more is made of a file: memory ran out, or a cause at a place stopped it.
+#[derive(Clone, Copy, PartialEq, Eq)]
+pub enum Failure<C> {
+    OutOfMemory(AllocError),
+    Stopped(Stop<C>),
+}
+
+impl<C> From<AllocError> for Failure<C> {
+    ghost from_gives = { λ error failure. failure ≡ OutOfMemory error };
+
+    fn from(error: AllocError) -> Failure<C> {
+        Failure::OutOfMemory(error)
+    }
+}
+
+impl<C, T: Drop> From<AllocFailed<T>> for Failure<C> {
+    ghost from_gives = { λ _ failure. IsOutOfMemory failure };
+
+    fn from(error: AllocFailed<T>) -> Failure<C> {
+        Failure::OutOfMemory(error.into())
+    }
+}
+
+impl<C> From<Stop<C>> for Failure<C> {
+    ghost from_gives = { λ stop failure. failure ≡ Stopped stop };
+
+    fn from(stop: Stop<C>) -> Failure<C> {
+        Failure::Stopped(stop)
+    }
 }
 
 /// A record as a part of the file, with its place.
@@ -70,37 +120,26 @@ pub struct Part<'a> {
 fn split(bytes: &[u8]) -> Result<(Record, &[u8]), Fault>
     ensures { split_view result ≡ record_at bytes.now }
 {
+    // A rule of the project: a slice pattern names the kind byte, the fields and the rest.
     match bytes {
-        [1, clusters, cluster_size, order, rest @ ..] => {
+        &[HEADER, clusters, cluster_size, order, ref rest @ ..] => {
             let header = Header {
-                clusters: *clusters,
-                cluster_size: *cluster_size,
-                order: *order,
+                clusters,
+                cluster_size,
+                order,
             };
             Ok((Record::Header(header), rest))
         }
-        [2, cluster, a, b, c, d, rest @ ..] => {
-            let parameter = u32::from_le_bytes([*a, *b, *c, *d]);
-            Ok((
-                Record::Task(Task {
-                    cluster: *cluster,
-                    parameter,
-                }),
-                rest,
-            ))
+        &[TASK, cluster, a, b, c, d, ref rest @ ..] => {
+            let parameter = u32::from_le_bytes([a, b, c, d]);
+            Ok((Record::Task(Task { cluster, parameter }), rest))
         }
-        [4, task, a, b, c, d, rest @ ..] => {
-            let instant = u32::from_le_bytes([*a, *b, *c, *d]);
-            Ok((
-                Record::Event(Event::Release {
-                    task: *task,
-                    instant,
-                }),
-                rest,
-            ))
+        &[Event::RELEASE, task, a, b, c, d, ref rest @ ..] => {
+            let instant = u32::from_le_bytes([a, b, c, d]);
+            Ok((Record::Event(Event::Release { task, instant }), rest))
         }
-        [7, task, rest @ ..] => Ok((Record::Event(Event::Finish { task: *task }), rest)),
-        [1 | 2 | 4 | 7, ..] => Err(Fault::CutShort),
+        &[Event::FINISH, task, ref rest @ ..] => Ok((Record::Event(Event::Finish { task }), rest)),
+        [HEADER | TASK | Event::RELEASE | Event::FINISH, ..] => Err(Fault::CutShort),
         _ => Err(Fault::UnknownKind),
     }
 }
@@ -117,12 +156,13 @@ impl<'a> Reader<'a> {
     pub fn new(file: &'a [u8]) -> Reader<'a>
         ensures file { result.file.now ≡ file.now }
         ensures at { result.at ≡ 0 }
+        ensures quiet { QuietAtEnd }
     {
         Reader { file, at: 0 }
     }
 
     /// The next record, or None at the end; a fault does not move the reader.
-    pub fn next(&mut self) -> Result<Option<Part<'a>>, Fault>
+    pub fn read_part(&mut self) -> Result<Option<Part<'a>>, Fault>
         ensures part { part_view result ≡ next_at self.old.file.now self.old.at }
         ensures file { self.new.file.now ≡ self.old.file.now }
         ensures place { self.new.at ≡ place_after self.old.at (next_at self.old.file.now self.old.at) }
@@ -131,11 +171,29 @@ impl<'a> Reader<'a> {
         if at >= self.file.len() {
             return Ok(None);
         }
-        let (_, left) = self.file.split_at(at);
+        let left = &self.file[at..];
         let (record, rest) = split(left)?;
-        let (bytes, _) = left.split_at(left.len() - rest.len());
+        let bytes = &left[..left.len() - rest.len()];
         self.at = at + bytes.len();
         Ok(Some(Part { at, bytes, record }))
+    }
+}
+
+/// The records in turn, up to the file's end or to the first fault; nothing comes after a fault.
+impl<'a> Iterator for Reader<'a> {
+    type Item = Result<Part<'a>, Stop<Fault>>;
+
+    ghost next_gives = { Reads };
+
+    ghost remaining = { λ reader. at_most (length reader.file.now - reader.at) };
+
+    fn next(&mut self) -> Option<Result<Part<'a>, Stop<Fault>>> {
+        let at = self.at;
+        let part = self.read_part();
+        if part.is_err() {
+            self.at = self.file.len();
+        }
+        part.map_err(|cause| Stop { cause, at }).transpose()
     }
 }
 
@@ -147,65 +205,61 @@ pub struct Script {
     pub events: Vec<Event>,
     /// The place of the first event, or the file's length.
     pub start: usize,
-    pub stop: Option<Stop>,
+    pub stop: Option<Stop<Fault>>,
 }
 
-// Why a record may not stand where it does, by what stands before it.
-fn misplaced(header_seen: bool, event_seen: bool, record: Record) -> Option<Fault>
-    ensures { result ≡ Misplaced header_seen event_seen «record» }
-{
-    match (header_seen, record) {
-        (false, Record::Header(_)) => None,
-        (false, _) | (true, Record::Header(_)) => Some(Fault::HeaderMisplaced),
-        (true, Record::Task(_)) if event_seen => Some(Fault::TooLate),
-        (true, _) => None,
+impl Part<'_> {
+    // A fault of this record, at its place.
+    fn refused(self, cause: Fault) -> Failure<Fault>
+        ensures { result ≡ Stopped (record { cause = cause; at = self.entry.at }) }
+    {
+        Stop { cause, at: self.at }.into()
     }
 }
 
 impl Script {
     // Takes a record that may stand where it does, or says why it may not.
-    fn take(&mut self, at: usize, record: Record) -> Result<Option<Fault>, AllocError>
-        ensures fault { IfOk result (λ f. f ≡ misplaced_in (script_view self.old) «record») }
-        ensures after { IfOk result (λ f. script_view self.new ≡ taken (script_view self.old) at «record» f) }
+    fn take(&mut self, part: Part<'_>) -> Result<(), Failure<Fault>>
+        ensures stop { UnlessMemory result (λ stop. stop ≡ stop_at part.entry.at (misplaced_in (script_view self.old) part.entry.record)) }
+        ensures after { UnlessMemory result (λ _. script_view self.new ≡ taken (script_view self.old) part.entry.at part.entry.record (misplaced_in (script_view self.old) part.entry.record)) }
     {
-        let fault = misplaced(self.header.is_some(), !self.events.is_empty(), record);
-        if fault.is_some() {
-            return Ok(fault);
-        }
-        match record {
-            Record::Header(header) => self.header = Some(header),
-            Record::Task(task) => self.tasks.push(task)?,
-            Record::Event(event) => {
+        match (self.header, part.record) {
+            (None, Record::Header(header)) => self.header = Some(header),
+            (None, _) | (Some(_), Record::Header(_)) => {
+                return Err(part.refused(Fault::HeaderMisplaced));
+            }
+            (Some(_), Record::Task(_)) if !self.events.is_empty() => {
+                return Err(part.refused(Fault::TooLate));
+            }
+            (Some(_), Record::Task(task)) => self.tasks.push(task)?,
+            (Some(_), Record::Event(event)) => {
                 if self.events.is_empty() {
-                    self.start = at;
+                    self.start = part.at;
                 }
                 self.events.push(event)?;
             }
         }
-        Ok(None)
+        Ok(())
     }
 
-    fn stopped(self, fault: Fault, at: usize) -> Script
-        ensures { script_view result ≡ Stopped (script_view self) fault at }
+    // Takes the records of a file in turn. At the end a file with no header is at fault.
+    fn fill(&mut self, file: &[u8]) -> Result<(), Failure<Fault>>
+        ensures { UnlessMemory result (λ stop. stopped_by (script_view self.new) stop ≡ loaded_from (length file.now) file.now 0 (script_view self.old)) }
     {
-        Script {
-            stop: Some(Stop { fault, at }),
-            ..self
+        for part in Reader::new(file) {
+            self.take(part?)?;
         }
-    }
-
-    // At the end of the file: one with no header is at fault.
-    fn ended(self, at: usize) -> Script
-        ensures { script_view result ≡ Ended (script_view self) at }
-    {
-        match self.header {
-            None => self.stopped(Fault::HeaderMisplaced, at),
-            Some(_) => self,
+        if self.header.is_none() {
+            let cause = Fault::HeaderMisplaced;
+            let at = file.len();
+            return Err(Stop { cause, at }.into());
         }
+        Ok(())
     }
 }
 
 /// Takes the records of a file in turn, up to its end or to the first fault.
+#[tactic(auto, using(crate::proofs::RoundTrip::reads_back))]
 pub fn load(heap: Global, file: &[u8]) -> Result<Script, AllocError>
     ensures script { IfOk result (λ s. script_view s ≡ loaded file.now) }
     ensures back { IfOk result (λ s. ReadsBack file.now (script_view s)) }
@@ -217,20 +271,12 @@ pub fn load(heap: Global, file: &[u8]) -> Result<Script, AllocError>
         start: file.len(),
         stop: None,
     };
-    let mut reader = Reader::new(file);
-    loop {
-        let at = reader.at;
-        let read = match reader.next() {
-            Ok(read) => read,
-            Err(fault) => return Ok(script.stopped(fault, at)),
-        };
-        let Some(part) = read else {
-            return Ok(script.ended(at));
-        };
-        if let Some(fault) = script.take(at, part.record)? {
-            return Ok(script.stopped(fault, at));
-        }
+    match script.fill(file) {
+        Ok(()) => {}
+        Err(Failure::Stopped(stop)) => script.stop = Some(stop),
+        Err(Failure::OutOfMemory(error)) => return Err(error),
     }
+    Ok(script)
 }
 
 #[cfg(test)]
@@ -247,7 +293,7 @@ mod tests {
                 None
             } else {
                 Some(Stop {
-                    fault: Fault::CutShort,
+                    cause: Fault::CutShort,
                     at,
                 })
             };
@@ -266,9 +312,22 @@ mod tests {
             (&[1, 2, 1, 0, 1, 2, 1, 0], Fault::HeaderMisplaced, 4),
             (&[1, 2, 1, 0, 7, 5, 2, 0, 9, 0, 0, 0], Fault::TooLate, 6),
         ];
-        for (file, fault, at) in files {
-            assert_eq!(rt; load(rt.alloc(), file)?.stop, Some(Stop { fault, at }));
+        for (file, cause, at) in files {
+            assert_eq!(rt; load(rt.alloc(), file)?.stop, Some(Stop { cause, at }));
         }
         Ok(())
+    }
+
+    #[test]
+    fn nothing_comes_after_a_fault(rt: HostRuntime) {
+        let file = [1, 2, 1, 0, 3, 7, 5];
+        let mut reader = Reader::new(&file);
+        assert!(rt; matches!(reader.next(), Some(Ok(Part { at: 0, .. }))));
+        let stop = Stop {
+            cause: Fault::UnknownKind,
+            at: 4,
+        };
+        assert_eq!(rt; reader.next().and_then(|item| item.err()), Some(stop));
+        assert!(rt; reader.next().is_none());
     }
 }
