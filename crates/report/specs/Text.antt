@@ -1,44 +1,31 @@
 -- The text of a replay: its head, a line for each event, and where it stopped.
-use Rattle.std.specs.Prelude.{ℕ, zero, suc, ◌+◌, ◌/◌, ◌%◌, ◌^◌, min, Bool, cond, List, [], ◌∷◌, ◌++◌, take, Ok, Err, codes, decimal, Result, ◌==◌}
-use Rattle.model.specs.Numbers.{refusal_number, event_kind, event_task}
+use Rattle.std.specs.Prelude.{ℕ, ◌+◌, min, List, [], ◌∷◌, ◌++◌, take, Ok, Err, codes, decimal, Result}
+use Rattle.std.specs.List.{flat_map}
+use Rattle.task_set.specs.Sets.{bits, upto}
+use Rattle.model.specs.Numbers.{event_kind, event_task}
+use Rattle.model.specs.Text.{accepted_text, refusal_text}
 use Rattle.model.specs.declared.Answer.{Answer}
-use Rattle.model.specs.declared.Answer.TheVariants.{Accepted}
 use Rattle.model.specs.declared.Refusal.{Refusal}
 use Rattle.model.specs.declared.Event.{Event}
 use Rattle.arbiter.specs.declared.Outcome.{Outcome}
 
 -- what an event was answered: ok, or no and the refusal's number
 abbrev pub answer_text : Result Answer Refusal → List ℕ
-answer_text (Ok Accepted) = codes "ok"
-answer_text (Err f) = codes "no" ++ decimal (refusal_number f)
+answer_text (Ok a) = accepted_text a
+answer_text (Err f) = refusal_text f
 
--- whether task t is in the set s: bit t
-abbrev pub has : ℕ → ℕ → Bool
-has s t = s / 2 ^ t % 2 == 1
+-- tasks with commas in between, or a dash in place of nothing
+abbrev pub listed : List ℕ → List ℕ
+listed [] = codes "-"
+listed (t ∷ ts) = decimal t ++ flat_map (λ u. codes "," ++ decimal u) ts
 
--- a comma after what is not empty
-abbrev pub comma : List ℕ → List ℕ
-comma [] = []
-comma (x ∷ xs) = (x ∷ xs) ++ codes ","
-
--- the tasks of the set below n, ascending with commas in between
-unfoldable pub tasks_below : ℕ → ℕ → List ℕ
-tasks_below s zero = []
-tasks_below s (suc n) = cond (has s n) (comma (tasks_below s n) ++ decimal n) (tasks_below s n)
-
--- a dash in place of nothing
-abbrev pub dash : List ℕ → List ℕ
-dash [] = codes "-"
-dash (x ∷ xs) = x ∷ xs
-
--- a set of tasks, which are below 64
+-- a set of tasks, which are below 64, ascending
 abbrev pub set_bytes : ℕ → List ℕ
-set_bytes s = dash (tasks_below s 64)
+set_bytes s = listed (upto 64 (bits s))
 
 -- each cluster's set after a space
-unfoldable pub sets_bytes : List ℕ → List ℕ
-sets_bytes [] = []
-sets_bytes (s ∷ ss) = codes " " ++ (set_bytes s ++ sets_bytes ss)
+abbrev pub sets_bytes : List ℕ → List ℕ
+sets_bytes sets = flat_map (λ s. codes " " ++ set_bytes s) sets
 
 -- the line of the event with the number n: its kind, its task, its answer and the clusters' sets
 abbrev pub line_bytes : ℕ → Event → Result Answer Refusal → List ℕ → List ℕ
