@@ -1,9 +1,10 @@
 -- A run in memory that is large enough is the run by the rules.
-use Rattle.std.proofs.Common.{◌≡◌, ℕ, ◌*◌, ◌≤◌, min, Bool, true, false, cond, ◌||◌, ltb, List, [], ◌∷◌, ◌++◌, length, take, drop, Some, None, Err, Option, refl, ap, ◌∙◌, append-nil, arith}
+use Rattle.std.proofs.Common.{◌≡◌, ℕ, ◌*◌, ◌≤◌, min, Bool, true, false, cond, ◌||◌, ltb, List, [], ◌∷◌, ◌++◌, length, take, drop, Some, None, Ok, Err, Option, Result, sym, refl, ap, ◌∙◌, append-nil, arith}
 use Rattle.std.proofs.lemmas.Nat.{mul-le}
 use Rattle.std.proofs.lemmas.List.{take_all, drop_all}
 use Rattle.std.proofs.lemmas.Bool.{or_parts, or_from, ltb-false, le-ltb}
 use Rattle.order.specs.Urgency.{Urgency, Lawful}
+use Rattle.model.specs.declared.Task.{Task}
 use Rattle.model.specs.declared.Event.{Event}
 use Rattle.model.specs.declared.Refusal.{Refusal}
 use Rattle.model.specs.declared.Refusal.TheVariants.{ClusterCount, ClusterSize, TaskCount, MemoryTooSmall, ClusterAbsent, ParameterUnfit}
@@ -11,12 +12,16 @@ use Rattle.model.specs.Rules.{first_of, start, unless}
 use Rattle.model.proofs.Runs.{kept}
 use Rattle.arbiter.specs.declared.System.{System}
 use Rattle.arbiter.specs.declared.Outcome.{Outcome}
-use Rattle.arbiter.specs.Memory.{Tables, Contents, plan_by, plan_of}
+use Rattle.arbiter.specs.Memory.{Tables, Contents, tables, said, plan_by, plan_of}
 use Rattle.arbiter.specs.Meaning.{Reached}
 use Rattle.arbiter.specs.SetUp.{outside, absent, unfit, unaccepted}
+use Rattle.arbiter.proofs.Starts.{refused-for, accepted-for}
 use Rattle.arbiter.specs.Outcomes.{with_events, outcomes, written, Ran}
+use Rattle.scenario.specs.declared.Header.{Header}
 use Rattle.scenario.specs.Loading.{Loaded}
-use Rattle.replay.specs.Trace.{tables_of, refused, Promised}
+use Rattle.replay.specs.declared.Cause.{Cause}
+use Rattle.replay.specs.declared.Cause.TheVariants.{SetUp}
+use Rattle.replay.specs.Trace.{Printed, tables_of, refused, stopped_after, ending, system_text, run_text, ran_unless, run_under, Promised}
 
 module _ {Mark : Type 0} (order : Urgency Mark) where
   -- a place for each outcome: all events are run
@@ -54,10 +59,38 @@ module _ {Mark : Type 0} (order : Urgency Mark) where
       let a2 : x.clusters * length x.tasks ≤ length m.places = omega arith in
       or_from _ _ (le-ltb _ _ a1) (le-ltb _ _ a2))
 
--- set-up's refusal
-pub turned_down : (o : Option Refusal) (x : Tables) (f : Refusal) → Err f ≡ unless o x → o ≡ Some f
-turned_down None x f e = let w : ◌≡◌ {A = ℕ} 0 1 = cc in absurd (omega arith)
-turned_down (Some g) x f e = cc
+  module _ (h : Header) (s : Loaded) (ts : List Task) (m : Contents Mark) (same : ts ≡ s.tasks) (j : 64 ≤ length m.jobs) (p : 512 ≤ length m.places) where
+    -- what set-up is given
+    abbrev given : Tables
+    given = tables h.clusters h.cluster_size ts
+
+    abbrev pub answer : Result Unit Refusal
+    answer = unless (unaccepted order given m) tt
+
+    is-given : given ≡ tables_of h s
+    is-given = ap (tables h.clusters h.cluster_size) same
+
+    -- the tests of the file's tables come out as those of what is given
+    tested : (o : Option Refusal) → unaccepted order given m ≡ o → refused order (tables_of h s) ≡ o
+    tested o e = ap (refused order) (sym is-given) ∙ sym (enough-memory given m j p) ∙ e
+
+    abbrev run : Printed
+    run = ending (run_text order (tables_of h s) s.events) s.stop
+
+    -- a run that set-up turns away
+    pub turned_away : (f : Refusal) (why : Cause) → Err f ≡ answer → why ≡ SetUp f → stopped_after [] why s.start ≡ run_under order h s
+    turned_away f why e w =
+        ap (λ z. stopped_after [] z s.start) w
+        ∙ sym (ap (λ o. ran_unless o s.start run) (tested (Some f) (refused-for _ f e)))
+
+    -- a run that it accepts
+    pub ran_whole : (y : System) (es : List Event) (os : List Outcome) (text : List ℕ) → said y ≡ given → Ok tt ≡ answer → es ≡ s.events → os ≡ outcomes (plan_of order y) (start (plan_of order y)) es
+        → text ≡ system_text (said y) es os → ending text s.stop ≡ run_under order h s
+    ran_whole y es os text ye e ee eo t =
+        let r : text ≡ run_text order (tables_of h s) s.events =
+        t ∙ ap (system_text (said y) es) eo
+        ∙ ap (λ z. run_text order z es) (ye ∙ is-given) ∙ ap (run_text order (tables_of h s)) ee in
+        ap (λ z. ending z s.stop) r ∙ sym (ap (λ o. ran_unless o s.start run) (tested None (accepted-for _ e)))
 
 -- every file's list of events keeps the promise
 pub promised : {Mark : Type 0} (order : Urgency Mark) → Lawful order.before → (s : Loaded) → Promised order s

@@ -1,5 +1,7 @@
 -- The trace of a scenario file.
-use Rattle.std.specs.Prelude.{◌≡◌, ℕ, ◌*◌, cond, ◌&&◌, List, [], ◌∷◌, ◌++◌, length, is_some, Some, None, string_bytes, Option, ◌==◌, nat_lt}
+use Rattle.std.specs.Prelude.{◌≡◌, ℕ, ◌*◌, cond, ◌&&◌, List, [], ◌∷◌, ◌++◌, length, is_some, Some, None, Ok, Err, string_bytes, Option, Result, ◌==◌, nat_lt}
+use Rattle.std.specs.Option.{option_map}
+use Rattle.std.specs.declared.string.String.{String}
 use Rattle.order.specs.Urgency.{Urgency}
 use Rattle.order.specs.Supplied.{earliest_deadline, level}
 use Rattle.model.specs.declared.Event.{Event}
@@ -14,13 +16,17 @@ use Rattle.arbiter.specs.SetUp.{outside, absent, unfit}
 use Rattle.arbiter.specs.Outcomes.{with_events, outcomes}
 use Rattle.scenario.specs.declared.Header.{Header}
 use Rattle.scenario.specs.declared.Stop.{Stop}
+use Rattle.scenario.specs.declared.Failure.{Failure}
+use Rattle.scenario.specs.declared.Fault.{Fault}
 use Rattle.scenario.specs.declared.Fault.TheVariants.{HeaderMisplaced}
 use Rattle.scenario.specs.Format.{fault_number}
+use Rattle.scenario.specs.Ends.{MatchUnlessMemory}
 use Rattle.scenario.specs.Loading.{Loaded, loaded}
 use Rattle.report.specs.Text.{head_bytes, lines_bytes, stop_bytes}
 use Rattle.replay.specs.declared.Cause.{Cause}
 use Rattle.replay.specs.declared.Cause.TheVariants.{FileTooLong, Record, UnknownOrder, SetUp}
-use Rattle.replay.specs.declared.Halt.{Halt}
+use Rattle.replay.specs.declared.Supplied.{Supplied}
+use Rattle.replay.specs.declared.Supplied.TheVariants.{EarliestDeadline, Level}
 use Rattle.replay.specs.declared.Trace.{Trace}
 
 -- the number of what stopped a replay
@@ -33,7 +39,7 @@ cause_number (SetUp f) = refusal_number f
 -- what is printed, and where and why it stopped, if it did
 pub record Printed : Type 0 where
   pub text : List ℕ
-  pub stop : Option Halt
+  pub stop : Option (Stop Cause)
 
 -- what the code's trace holds
 abbrev pub trace_view : Trace → Printed
@@ -43,10 +49,30 @@ trace_view t = record { text = string_bytes t.text; stop = t.stop }
 abbrev pub stopped_after : List ℕ → Cause → ℕ → Printed
 stopped_after text why place = record { text = text ++ stop_bytes (cause_number why) place; stop = Some (record { cause = why; at = place }) }
 
+-- the stop that a file's fault makes
+abbrev pub caused : Stop Fault → Stop Cause
+caused x = record { cause = Record x.cause; at = x.at }
+
+-- the text, and a stop line where it was stopped
+abbrev pub closed : List ℕ → Option (Stop Cause) → Printed
+closed text None = record { text = text; stop = None }
+closed text (Some x) = stopped_after text x.cause x.at
+
 -- the text, and a stop line where the file has a fault
-abbrev pub ending : List ℕ → Option Stop → Printed
-ending text None = record { text = text; stop = None }
-ending text (Some x) = stopped_after text (Record x.fault) x.at
+abbrev pub ending : List ℕ → Option (Stop Fault) → Printed
+ending text stop = closed text (option_map caused stop)
+
+-- p is printed: what `whole` makes of a run, or a stop before any line; nothing is said where memory ran out
+abbrev pub ComesTo : {A : Type 0} → (A → Printed) → Result A (Failure Cause) → Printed → Type 0
+ComesTo whole r p = MatchUnlessMemory r (λ run. whole run ≡ p) (λ x. stopped_after [] x.cause x.at ≡ p)
+
+-- p is printed where a run gave this text, behind which a fault may stop the file
+abbrev pub Prints : {A : Type 0} → Result (String A) (Failure Cause) → Option (Stop Fault) → Printed → Type 0
+Prints r stop p = ComesTo (λ text. ending (string_bytes text) stop) r p
+
+-- the same of a trace that lacks the stop's line
+abbrev pub Tells : Result Trace (Failure Cause) → Printed → Type 0
+Tells r p = ComesTo (λ t. closed (string_bytes t.text) t.stop) r p
 
 -- a file's tables
 abbrev pub tables_of : Header → Loaded → Tables
@@ -75,14 +101,20 @@ ran_unless (Some f) place run = stopped_after [] (SetUp f) place
 abbrev pub run_under : {Mark : Type 0} → Urgency Mark → Header → Loaded → Printed
 run_under order h s = ran_unless (refused order (tables_of h s)) s.start (ending (run_text order (tables_of h s) s.events) s.stop)
 
--- under the order that its header names
-abbrev pub run_by : Header → Loaded → Printed
-run_by h s = cond (h.order == 1) (run_under earliest_deadline h s) (cond (h.order == 2) (run_under level h s) (stopped_after [] UnknownOrder s.start))
+-- the order that a number names
+abbrev pub order_named : ℕ → Result Supplied Cause
+order_named n = cond (n == 1) (Ok EarliestDeadline) (cond (n == 2) (Ok Level) (Err UnknownOrder))
+
+-- a file run under the order that its header names
+abbrev pub run_by : Result Supplied Cause → Header → Loaded → Printed
+run_by (Ok EarliestDeadline) h s = run_under earliest_deadline h s
+run_by (Ok Level) h s = run_under level h s
+run_by (Err why) h s = stopped_after [] why s.start
 
 -- a file that has its header
 abbrev pub run_from : Option Header → Loaded → Printed
 run_from None s = stopped_after [] (Record HeaderMisplaced) 0
-run_from (Some h) s = run_by h s
+run_from (Some h) s = run_by (order_named h.order) h s
 
 -- a file that stops before its first event is not run
 abbrev pub run_script : Loaded → Printed

@@ -1,22 +1,26 @@
 // A scenario run through an arbiter, and its trace.
 #![tactic(auto)]
 
-ghost use Rattle.std.specs.Prelude.{◌≡◌, ◌≤◌, [], length, IfOk, vec_len, string_bytes};
-ghost use Rattle.scenario.specs.Loading.{script_view as ScriptView, loaded};
-ghost use Rattle.order.specs.Supplied.{earliest_deadline as EarliestDeadlineUrgency, level as LevelUrgency};
-ghost use Rattle.arbiter.specs.Memory.{contents, said, plan_of as PlanOf};
+ghost use Rattle.std.specs.Prelude.{◌≡◌, [], IfOk, string_bytes};
+ghost use Rattle.scenario.specs.Loading.{script_view, loaded};
+ghost use Rattle.order.specs.Supplied.{earliest_deadline, level};
+ghost use Rattle.replay.specs.declared.Cause.TheVariants.{Record, SetUp};
+ghost use Rattle.arbiter.specs.Memory.{contents, said, plan_of};
 ghost use Rattle.arbiter.specs.Meaning.{Reached};
 ghost use Rattle.arbiter.specs.Outcomes.{outcomes};
 ghost use Rattle.model.specs.Rules.{start};
-ghost use Rattle.replay.specs.Trace.{cause_number as CauseNumber, run_from as RunFrom, run_script as RunScript, system_text as SystemText, trace_view as TraceView, stopped_after as StoppedAfter, ending, run_under as RunUnder, run_by as RunBy, traced, Promised};
+ghost use Rattle.replay.specs.Trace.{cause_number, order_named, run_from, run_under, trace_view, traced, system_text, Prints, Tells, Promised};
 
 use arbiter::{Arbiter, Outcome, System};
-use cluster::{Entry, Job};
-use model::{Answer, Condition, Event, Refusal};
-use order::{EarliestDeadline, Level, Order};
-use report::{push_head, push_lines, push_stop};
-use scenario::{Fault, Header, Script, Stop, load};
+use cluster::Job;
+use model::{Answer, Event, Refusal};
+use order::{EarliestDeadline, Entry, Level, Order};
+use report::{Head, Lines, StopLine};
+use scenario::{Failure, Fault, Header, Script, Stop, load};
 use std::alloc::{AllocError, Global};
+
+/// The most bytes that a file may have.
+pub const LONGEST_FILE: usize = 65536;
 
 /// What stopped a replay.
 #[derive(Clone, Copy, PartialEq, Eq, Debug)]
@@ -31,87 +35,81 @@ pub enum Cause {
     SetUp(Refusal),
 }
 
-impl Cause {
-    /// The number that a stop line shows.
-    pub fn number(self) -> u8
-        ensures { result ≡ CauseNumber self }
-    {
-        match self {
-            Cause::FileTooLong => 24,
-            Cause::Record(fault) => fault.number(),
-            Cause::UnknownOrder => 9,
-            Cause::SetUp(refusal) => refusal.number(),
-        }
+impl From<Fault> for Cause {
+    ghost from_gives = { λ fault cause. cause ≡ Record fault };
+
+    fn from(fault: Fault) -> Cause {
+        Cause::Record(fault)
     }
 }
 
-/// What stopped a replay, and the place in the file.
-#[derive(Clone, Copy, PartialEq, Eq, Debug)]
-pub struct Halt {
-    pub cause: Cause,
-    pub at: usize,
+impl From<Refusal> for Cause {
+    ghost from_gives = { λ refusal cause. cause ≡ SetUp refusal };
+
+    fn from(refusal: Refusal) -> Cause {
+        Cause::SetUp(refusal)
+    }
+}
+
+/// The number that a stop line shows.
+impl From<Cause> for u8 {
+    ghost from_gives = { λ cause number. number ≡ cause_number cause };
+
+    fn from(cause: Cause) -> u8 {
+        match cause {
+            Cause::FileTooLong => 24,
+            Cause::Record(fault) => fault.into(),
+            Cause::UnknownOrder => 9,
+            Cause::SetUp(refusal) => refusal.into(),
+        }
+    }
 }
 
 /// The trace of a scenario file; `stop` is `None` where the file ran to its end.
 #[derive(Drop)]
 pub struct Trace {
     pub text: String,
-    pub stop: Option<Halt>,
+    pub stop: Option<Stop<Cause>>,
 }
 
-// n times x.
-fn filled<A: Copy>(heap: Global, x: A, n: usize) -> Result<Vec<A>, AllocError>
-    ensures { IfOk result (λ v. vec_len v ≡ n) }
-{
-    let mut all = Vec::new(heap);
-    for _i in 0..n {
-        all.push(x)?;
-    }
-    Ok(all)
+// The orders of urgency that a header can name.
+#[derive(Clone, Copy)]
+enum Supplied {
+    EarliestDeadline,
+    Level,
 }
 
-// A stop line after the text so far.
-fn stopped_after(
-    heap: Global,
-    mut text: String,
-    cause: Cause,
-    at: usize,
-) -> Result<Trace, AllocError>
-    ensures { IfOk result (λ t. TraceView t ≡ StoppedAfter (string_bytes text) cause at) }
-{
-    push_stop(&mut text, heap, cause.number(), at)?;
-    Ok(Trace {
-        text,
-        stop: Some(Halt { cause, at }),
-    })
-}
+impl TryFrom<u8> for Supplied {
+    type Error = Cause;
 
-// The text, and a stop line where the file has a fault.
-fn end(heap: Global, text: String, stop: Option<Stop>) -> Result<Trace, AllocError>
-    ensures { IfOk result (λ t. TraceView t ≡ ending (string_bytes text) stop) }
-{
-    match stop {
-        Some(stop) => stopped_after(heap, text, Cause::Record(stop.fault), stop.at),
-        None => Ok(Trace { text, stop: None }),
+    ghost try_from_gives = { λ number order. order ≡ order_named number };
+
+    fn try_from(number: u8) -> Result<Supplied, Cause> {
+        match number {
+            1 => Ok(Supplied::EarliestDeadline),
+            2 => Ok(Supplied::Level),
+            _ => Err(Cause::UnknownOrder),
+        }
     }
 }
+
+// `heap` is passed along and kept in no struct: the library's own functions are passed it too.
 
 // What the events of a system that has been set up come to.
 fn run_events<O: Order>(
     heap: Global,
-    arbiter: &mut Arbiter<'_, O>,
-    system: &System<'_>,
+    arbiter: &mut Arbiter<'_, '_, O>,
     events: &[Event],
 ) -> Result<Vec<Outcome>, AllocError>
-    requires { Reached O.Order.urgency system.now (contents arbiter.old) [] }
-    ensures { IfOk result (λ v. v.items ≡ outcomes (PlanOf O.Order.urgency system.now) (start (PlanOf O.Order.urgency system.now)) events.now) }
+    requires { Reached O.Order.urgency arbiter.old.system (contents arbiter.old) [] }
+    ensures { let plan = plan_of O.Order.urgency arbiter.old.system in IfOk result (λ v. v.items ≡ outcomes plan (start plan) events.now) }
 {
     let blank = Outcome {
         answer: Ok(Answer::Accepted),
         scheduled: [0; 8],
     };
-    let mut all = filled(heap, blank, events.len())?;
-    arbiter.run(system, events, all.as_mut_slice());
+    let mut all = vec![in heap; blank; events.len()]?;
+    arbiter.run(events, all.as_mut_slice());
     Ok(all)
 }
 
@@ -120,119 +118,118 @@ fn lines(
     heap: Global,
     system: &System<'_>,
     events: &[Event],
-    all: &[Outcome],
+    outcomes: &[Outcome],
 ) -> Result<String, AllocError>
-    ensures { IfOk result (λ t. string_bytes t ≡ SystemText (said system.now) events.now all.now) }
+    ensures { IfOk result (λ t. string_bytes t ≡ system_text (said system.now) events.now outcomes.now) }
 {
     let clusters = usize::from(system.clusters);
-    let processors = clusters * usize::from(system.cluster_size);
-    let mut text = String::new(heap);
-    push_head(&mut text, heap, clusters, processors, system.tasks.len())?;
-    push_lines(&mut text, heap, events, all, clusters)?;
-    Ok(text)
+    let head = Head {
+        clusters,
+        processors: clusters * usize::from(system.cluster_size),
+        tasks: system.tasks.len(),
+    };
+    let lines = Lines {
+        events,
+        outcomes,
+        clusters,
+    };
+    format!(in heap; "{head}{lines}")
 }
 
-// A scenario run under an order, in memory for as many tasks and clusters as there can be.
-fn run_in<O: Order>(
+// The text of a scenario run under an order, in memory for as many tasks and clusters as there can
+// be.
+fn run_under<O: Order>(
     heap: Global,
     header: Header,
     script: &Script,
-    jobs: &mut [Job],
-    places: &mut [Entry<O::Mark>],
-) -> Result<Trace, AllocError>
-    requires { (64 ≤ length jobs.old) × (512 ≤ length places.old) }
-    ensures { IfOk result (λ t. TraceView t ≡ RunUnder O.Order.urgency header (ScriptView script.now)) }
+) -> Result<String, Failure<Cause>>
+    ensures { Prints result script.now.stop (run_under O.Order.urgency header (script_view script.now)) }
 {
-    let mut arbiter = Arbiter::<O> {
-        jobs,
-        places,
-        counts: [0; 8],
-    };
-    match arbiter.set_up(
-        header.clusters,
-        header.cluster_size,
-        script.tasks.as_slice(),
-    ) {
-        Ok(system) => {
-            let events = script.events.as_slice();
-            let all = run_events(heap, &mut arbiter, &system, events)?;
-            let text = lines(heap, &system, events, all.as_slice())?;
-            end(heap, text, script.stop)
-        }
-        Err(refusal) => stopped_after(heap, String::new(heap), Cause::SetUp(refusal), script.start),
-    }
-}
-
-// The same in memory of its own.
-fn run_under<O: Order>(heap: Global, header: Header, script: &Script) -> Result<Trace, AllocError>
-    ensures { IfOk result (λ t. TraceView t ≡ RunUnder O.Order.urgency header (ScriptView script.now)) }
-{
-    let idle = Job {
-        condition: Condition::Idle,
-        donor: None,
-        recipient: None,
-    };
     let blank = Entry {
         mark: O::mark(0, 0),
         task: 0,
     };
-    let mut jobs = filled(heap, idle, 64)?;
-    let mut places = filled(heap, blank, 512)?;
-    run_in::<O>(
-        heap,
-        header,
-        script,
-        jobs.as_mut_slice(),
-        places.as_mut_slice(),
-    )
-}
-
-// A scenario run under the order that its header names.
-fn run_by(heap: Global, header: Header, script: &Script) -> Result<Trace, AllocError>
-    ensures { IfOk result (λ t. TraceView t ≡ RunBy header (ScriptView script.now)) }
-{
-    match header.order {
-        1 => run_under::<EarliestDeadline>(heap, header, script),
-        2 => run_under::<Level>(heap, header, script),
-        _ => stopped_after(heap, String::new(heap), Cause::UnknownOrder, script.start),
+    let mut jobs = vec![in heap; Job::IDLE; 64]?;
+    let mut places = vec![in heap; blank; 512]?;
+    let mut arbiter = Arbiter::<O>::new(jobs.as_mut_slice(), places.as_mut_slice());
+    let system = System {
+        clusters: header.clusters,
+        cluster_size: header.cluster_size,
+        tasks: script.tasks.as_slice(),
+    };
+    if let Err(refusal) = arbiter.set_up(system) {
+        let cause = Cause::from(refusal);
+        let at = script.start;
+        return Err(Stop { cause, at }.into());
     }
+    let events = script.events.as_slice();
+    let outcomes = run_events(heap, &mut arbiter, events)?;
+    let text = lines(heap, &system, events, outcomes.as_slice())?;
+    Ok(text)
 }
 
-// A script run from its header on.
-fn run_from(heap: Global, script: &Script) -> Result<Trace, AllocError>
-    ensures { IfOk result (λ t. TraceView t ≡ RunFrom (ScriptView script.now).header (ScriptView script.now)) }
+// The text of a scenario run under the order that its header names.
+fn run_from(heap: Global, script: &Script) -> Result<String, Failure<Cause>>
+    ensures { Prints result script.now.stop (run_from script.now.header (script_view script.now)) }
 {
-    match script.header {
-        Some(header) => run_by(heap, header, script),
+    let Some(header) = script.header else {
         // A script with no header has stopped before.
-        None => stopped_after(
-            heap,
-            String::new(heap),
-            Cause::Record(Fault::HeaderMisplaced),
-            0,
-        ),
+        let cause = Cause::Record(Fault::HeaderMisplaced);
+        return Err(Stop { cause, at: 0 }.into());
+    };
+    let order = Supplied::try_from(header.order).map_err(|cause| Stop {
+        cause,
+        at: script.start,
+    })?;
+    match order {
+        Supplied::EarliestDeadline => run_under::<EarliestDeadline>(heap, header, script),
+        Supplied::Level => run_under::<Level>(heap, header, script),
     }
 }
 
-// A script run, or stopped before its first event.
-fn run_script(heap: Global, script: &Script) -> Result<Trace, AllocError>
-    ensures { IfOk result (λ t. TraceView t ≡ RunScript (ScriptView script.now)) }
+// What the events of a file came to, up to its end or to what stops it: the trace without the line
+// of the stop.
+fn run_file(heap: Global, file: &[u8]) -> Result<Trace, Failure<Cause>>
+    ensures { Tells result (traced file.now) }
 {
-    if script.events.is_empty() && script.stop.is_some() {
-        return end(heap, String::new(heap), script.stop);
+    if file.len() > LONGEST_FILE {
+        let cause = Cause::FileTooLong;
+        let at = LONGEST_FILE;
+        return Err(Stop { cause, at }.into());
     }
-    run_from(heap, script)
+    let script = load(heap, file)?;
+    // A file that stops before its first event is not run.
+    let text = if script.events.is_empty() && script.stop.is_some() {
+        String::new(heap)
+    } else {
+        run_from(heap, &script)?
+    };
+    Ok(Trace {
+        text,
+        stop: script.stop.map(Stop::cause_into),
+    })
 }
 
 /// The trace of a scenario file: what each of its events came to, up to its end or to the first
 /// fault.
 pub fn trace_file(heap: Global, file: &[u8]) -> Result<Trace, AllocError>
-    ensures text { IfOk result (λ t. TraceView t ≡ traced file.now) }
-    ensures promise { Promised EarliestDeadlineUrgency (loaded file.now) × Promised LevelUrgency (loaded file.now) }
+    ensures text { IfOk result (λ t. trace_view t ≡ traced file.now) }
+    ensures promise { Promised earliest_deadline (loaded file.now) × Promised level (loaded file.now) }
 {
-    if file.len() > 65536 {
-        return stopped_after(heap, String::new(heap), Cause::FileTooLong, 65536);
+    let mut trace = match run_file(heap, file) {
+        Ok(trace) => trace,
+        Err(Failure::Stopped(stop)) => Trace {
+            text: String::new(heap),
+            stop: Some(stop),
+        },
+        Err(Failure::OutOfMemory(error)) => return Err(error),
+    };
+    if let Some(Stop { cause, at }) = trace.stop {
+        let line = StopLine {
+            number: cause.into(),
+            place: at,
+        };
+        write!(trace.text, "{line}")?;
     }
-    let script = load(heap, file)?;
-    run_script(heap, &script)
+    Ok(trace)
 }

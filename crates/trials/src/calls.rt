@@ -1,15 +1,10 @@
 // Calls of the arbiter that a scenario cannot make.
-use anyhow::anyhow;
+use anyhow::ensure;
 use arbiter::{Arbiter, System};
-use cluster::{Entry, Job};
-use model::{Condition, Task};
-use order::Level;
-
-const IDLE: Job = Job {
-    condition: Condition::Idle,
-    donor: None,
-    recipient: None,
-};
+use cluster::Job;
+use model::{Refusal, Task};
+use order::{Entry, Level};
+use std::fmt::Display;
 
 const BLANK: Entry<u32> = Entry { mark: 0, task: 0 };
 
@@ -24,91 +19,60 @@ const TASKS: [Task; 2] = [
     },
 ];
 
-// A cluster's scheduled set, or the number of the refusal.
-fn show_set(
+// Both tasks on one processor.
+const SYSTEM: System<'static> = System {
+    clusters: 1,
+    cluster_size: 1,
+    tasks: &TASKS,
+};
+
+// A question and its answer, or the refusal.
+fn show<T: Display + Drop>(
     rt: &HostRuntime,
-    arbiter: &Arbiter<'_, Level>,
-    system: &System<'_>,
-    cluster: u8,
+    question: &str,
+    answer: Result<T, Refusal>,
 ) -> anyhow::Result<()> {
-    match arbiter.scheduled(system, cluster) {
-        Ok(set) => println!(rt; "scheduled on {cluster}: {set}")?,
-        Err(refusal) => {
-            let number = refusal.number();
-            println!(rt; "scheduled on {cluster}: no{number}")?
-        }
+    match answer {
+        Ok(answer) => println!(rt; "{question}: {answer}")?,
+        Err(refusal) => println!(rt; "{question}: {refusal}")?,
     }
     Ok(())
 }
 
-// A task's condition by its number, or the number of the refusal.
-fn show_condition(
-    rt: &HostRuntime,
-    arbiter: &Arbiter<'_, Level>,
-    system: &System<'_>,
-    task: u8,
-) -> anyhow::Result<()> {
-    match arbiter.condition(system, task) {
-        Ok(condition) => {
-            let number = condition.number();
-            println!(rt; "condition of {task}: {number}")?
-        }
-        Err(refusal) => {
-            let number = refusal.number();
-            println!(rt; "condition of {task}: no{number}")?
-        }
-    }
-    Ok(())
+// The number of a task's condition, or the refusal.
+fn condition(arbiter: &Arbiter<'_, '_, Level>, task: u8) -> Result<u8, Refusal> {
+    arbiter.condition(task).map(u8::from)
 }
 
 // Questions, before and after a release.
 pub(super) fn questions(rt: &HostRuntime) -> anyhow::Result<()> {
-    let mut jobs = [IDLE; 2];
+    let mut jobs = [Job::IDLE; 2];
     let mut places = [BLANK; 2];
-    let mut arbiter = Arbiter::<Level> {
-        jobs: &mut jobs,
-        places: &mut places,
-        counts: [0; 8],
-    };
+    let mut arbiter = Arbiter::<Level>::new(&mut jobs, &mut places);
     println!(rt; "# questions")?;
-    let Ok(system) = arbiter.set_up(1, 1, &TASKS) else {
-        return Err(anyhow!("refused"));
-    };
-    show_set(rt, &arbiter, &system, 0)?;
-    let _ = arbiter.release(&system, 0, 0);
-    let _ = arbiter.release(&system, 1, 0);
-    show_set(rt, &arbiter, &system, 0)?;
-    show_set(rt, &arbiter, &system, 1)?;
-    show_condition(rt, &arbiter, &system, 1)?;
-    let _ = arbiter.finish(&system, 1);
-    show_condition(rt, &arbiter, &system, 1)?;
-    show_set(rt, &arbiter, &system, 0)?;
-    show_condition(rt, &arbiter, &system, 2)
+    ensure!(arbiter.set_up(SYSTEM).is_ok(), "refused");
+    show(rt, "scheduled on 0", arbiter.scheduled(0))?;
+    let _ = arbiter.release(0, 0);
+    let _ = arbiter.release(1, 0);
+    show(rt, "scheduled on 0", arbiter.scheduled(0))?;
+    show(rt, "scheduled on 1", arbiter.scheduled(1))?;
+    show(rt, "condition of 1", condition(&arbiter, 1))?;
+    let _ = arbiter.finish(1);
+    show(rt, "condition of 1", condition(&arbiter, 1))?;
+    show(rt, "scheduled on 0", arbiter.scheduled(0))?;
+    show(rt, "condition of 2", condition(&arbiter, 2))
 }
 
 // Memory that is too small for the tasks: 3 comes before every other number.
 pub(super) fn small(rt: &HostRuntime) -> anyhow::Result<()> {
-    let mut jobs = [IDLE; 1];
+    let mut jobs = [Job::IDLE; 1];
     let mut places = [BLANK; 2];
-    let mut arbiter = Arbiter::<Level> {
-        jobs: &mut jobs,
-        places: &mut places,
-        counts: [0; 8],
-    };
+    let mut arbiter = Arbiter::<Level>::new(&mut jobs, &mut places);
     println!(rt; "# memory too small")?;
-    if let Err(refusal) = arbiter.set_up(1, 1, &TASKS) {
-        let number = refusal.number();
-        println!(rt; "set-up: no{number}")?;
-    }
-    let system = System {
-        clusters: 1,
-        cluster_size: 1,
-        tasks: &TASKS,
-    };
-    if let Err(refusal) = arbiter.release(&system, 9, 0) {
-        let number = refusal.number();
-        println!(rt; "release: no{number}")?;
-    }
-    show_set(rt, &arbiter, &system, 9)?;
-    show_condition(rt, &arbiter, &system, 9)
+    let set_up = arbiter.set_up(SYSTEM).map(|_| "ok");
+    show(rt, "set-up", set_up)?;
+    arbiter.system = SYSTEM;
+    show(rt, "release", arbiter.release(9, 0))?;
+    show(rt, "scheduled on 9", arbiter.scheduled(9))?;
+    show(rt, "condition of 9", condition(&arbiter, 9))
 }

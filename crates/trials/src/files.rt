@@ -23,10 +23,7 @@ impl Draft {
     }
 
     fn add(&mut self, bytes: &[u8]) -> Result<(), AllocError> {
-        for b in bytes {
-            self.bytes.push(*b)?;
-        }
-        Ok(())
+        self.bytes.extend_from_slice(bytes)
     }
 
     fn task(&mut self, cluster: u8, parameter: u32) -> Result<(), AllocError> {
@@ -41,6 +38,11 @@ impl Draft {
 
     fn finish(&mut self, task: u8) -> Result<(), AllocError> {
         self.add(&[7, task])
+    }
+
+    // Prints a title and the trace.
+    fn show(&self, rt: &HostRuntime, title: &str) -> anyhow::Result<()> {
+        show(rt, title, self.bytes.as_slice())
     }
 }
 
@@ -69,25 +71,21 @@ pub(super) fn stops(rt: &HostRuntime) -> anyhow::Result<()> {
     show(rt, "unknown first record", &[3, 1, 0])?;
     let mut draft = Draft::new(rt, 1, 1, 1)?;
     draft.task(0, 5)?;
-    show(rt, "no event", draft.bytes.as_slice())?;
+    draft.show(rt, "no event")?;
     draft.add(&[9])?;
-    show(
-        rt,
-        "unknown kind before the first event",
-        draft.bytes.as_slice(),
-    )?;
+    draft.show(rt, "unknown kind before the first event")?;
     let mut draft = Draft::new(rt, 1, 1, 1)?;
     draft.add(&[1, 1, 1, 1])?;
-    show(rt, "second header", draft.bytes.as_slice())?;
+    draft.show(rt, "second header")?;
     let mut draft = Draft::new(rt, 1, 1, 1)?;
     draft.task(0, 5)?;
     draft.release(0, 1)?;
     draft.task(0, 6)?;
-    show(rt, "late task", draft.bytes.as_slice())?;
+    draft.show(rt, "late task")?;
     let mut draft = Draft::new(rt, 1, 1, 3)?;
     draft.task(0, 5)?;
     draft.release(0, 1)?;
-    show(rt, "unknown order", draft.bytes.as_slice())
+    draft.show(rt, "unknown order")
 }
 
 // A file cut after each of its bytes.
@@ -98,43 +96,41 @@ pub(super) fn cut(rt: &HostRuntime) -> anyhow::Result<()> {
     draft.finish(0)?;
     let bytes = draft.bytes.as_slice();
     for n in 1..bytes.len() {
-        let (front, _) = bytes.split_at(n);
-        show(rt, "cut", front)?;
+        show(rt, "cut", &bytes[..n])?;
     }
     show(rt, "whole", bytes)
 }
 
-// One task of the given kind, released.
+// Prints a title and the trace of a header with one task more, which is released.
 fn one(
     rt: &HostRuntime,
     title: &str,
-    head: (u8, u8, u8),
+    mut draft: Draft,
     cluster: u8,
     parameter: u32,
 ) -> anyhow::Result<()> {
-    let mut draft = Draft::new(rt, head.0, head.1, head.2)?;
     draft.task(cluster, parameter)?;
     draft.release(0, 0)?;
-    show(rt, title, draft.bytes.as_slice())
+    draft.show(rt, title)
 }
 
 // Set-up's numbers, at the place of the first event.
 pub(super) fn set_up(rt: &HostRuntime) -> anyhow::Result<()> {
-    one(rt, "no cluster", (0, 1, 1), 0, 1)?;
-    one(rt, "nine clusters", (9, 1, 1), 0, 1)?;
-    one(rt, "no processor", (1, 0, 1), 0, 1)?;
-    one(rt, "nine processors", (1, 9, 1), 0, 1)?;
-    one(rt, "absent cluster", (2, 1, 1), 2, 1)?;
-    one(rt, "level 255", (1, 1, 2), 0, 255)?;
-    one(rt, "level 256", (1, 1, 2), 0, 256)?;
-    one(rt, "the first number met", (9, 9, 2), 9, 256)?;
+    one(rt, "no cluster", Draft::new(rt, 0, 1, 1)?, 0, 1)?;
+    one(rt, "nine clusters", Draft::new(rt, 9, 1, 1)?, 0, 1)?;
+    one(rt, "no processor", Draft::new(rt, 1, 0, 1)?, 0, 1)?;
+    one(rt, "nine processors", Draft::new(rt, 1, 9, 1)?, 0, 1)?;
+    one(rt, "absent cluster", Draft::new(rt, 2, 1, 1)?, 2, 1)?;
+    one(rt, "level 255", Draft::new(rt, 1, 1, 2)?, 0, 255)?;
+    one(rt, "level 256", Draft::new(rt, 1, 1, 2)?, 0, 256)?;
+    one(rt, "the first number met", Draft::new(rt, 9, 9, 2)?, 9, 256)?;
     let draft = Draft::new(rt, 1, 1, 1)?;
-    show(rt, "no task, no event", draft.bytes.as_slice())?;
+    draft.show(rt, "no task, no event")?;
     let mut draft = Draft::new(rt, 1, 1, 1)?;
     for _ in 0..65 {
         draft.task(0, 1)?;
     }
-    show(rt, "65 tasks", draft.bytes.as_slice())
+    draft.show(rt, "65 tasks")
 }
 
 // Jobs released and finished.
@@ -151,7 +147,7 @@ pub(super) fn runs(rt: &HostRuntime) -> anyhow::Result<()> {
     draft.finish(0)?;
     draft.finish(1)?;
     draft.finish(2)?;
-    show(rt, "equal deadlines", draft.bytes.as_slice())?;
+    draft.show(rt, "equal deadlines")?;
     let mut draft = Draft::new(rt, 1, 1, 1)?;
     draft.task(0, u32::MAX)?;
     draft.task(0, 1)?;
@@ -159,7 +155,7 @@ pub(super) fn runs(rt: &HostRuntime) -> anyhow::Result<()> {
     draft.release(0, 1)?;
     draft.release(1, u32::MAX)?;
     draft.release(2, u32::MAX)?;
-    show(rt, "deadlines above 32 bits", draft.bytes.as_slice())
+    draft.show(rt, "deadlines above 32 bits")
 }
 
 // The largest systems and files.
@@ -171,7 +167,7 @@ pub(super) fn large(rt: &HostRuntime) -> anyhow::Result<()> {
     for t in 0..64u8 {
         draft.release(t, 0)?;
     }
-    show(rt, "64 tasks in one cluster", draft.bytes.as_slice())?;
+    draft.show(rt, "64 tasks in one cluster")?;
     let mut draft = Draft::new(rt, 8, 8, 1)?;
     for i in 0..64u8 {
         draft.task(i % 8, 1)?;
@@ -179,7 +175,7 @@ pub(super) fn large(rt: &HostRuntime) -> anyhow::Result<()> {
     for t in 0..64u8 {
         draft.release(t, 0)?;
     }
-    show(rt, "8 clusters of 8", draft.bytes.as_slice())?;
+    draft.show(rt, "8 clusters of 8")?;
     let mut draft = Draft::new(rt, 1, 1, 1)?;
     draft.task(0, 1)?;
     for _ in 0..32763 {
@@ -187,5 +183,5 @@ pub(super) fn large(rt: &HostRuntime) -> anyhow::Result<()> {
     }
     measure(rt, "65536 bytes", draft.bytes.as_slice())?;
     draft.add(&[7])?;
-    show(rt, "65537 bytes", draft.bytes.as_slice())
+    draft.show(rt, "65537 bytes")
 }

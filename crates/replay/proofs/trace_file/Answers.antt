@@ -10,11 +10,11 @@ use Rattle.replay.proofs.trace_file.Goals as goal
 both : (file : List ℕ) → Promised earliest_deadline (loaded file) × Promised level (loaded file)
 both file = (promised earliest_deadline earliest_lawful (loaded file), promised level level-lawful (loaded file))
 
-pub returns-then-file-gt65536-clause-promise : goal.returns-then-file-gt65536-clause-promise
-returns-then-file-gt65536-clause-promise c = both c.args.file.now
+pub returns-in-Err-OutOfMemory-clause-promise : goal.returns-in-Err-OutOfMemory-clause-promise
+returns-in-Err-OutOfMemory-clause-promise c = both c.args.file.now
 
-pub returns-in_err-script-clause-promise : goal.returns-in_err-script-clause-promise
-returns-in_err-script-clause-promise c = both c.args.file.now
+pub returns-in_err-write-clause-promise : goal.returns-in_err-write-clause-promise
+returns-in_err-write-clause-promise c = both c.args.file.now
 
 pub returns-clause-promise : goal.returns-clause-promise
 returns-clause-promise c = both c.args.file.now
