@@ -41,6 +41,7 @@ pub struct Arbiter<'a, 't, O: Order> {
 #[derive(Clone, Copy)]
 pub struct Outcome {
     pub answer: Result<Answer, Refusal>,
+    // Numbers, by a rule of the project: a caller keeps them and compares them as they are.
     pub scheduled: [u64; 8],
 }
 

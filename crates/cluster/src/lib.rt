@@ -132,7 +132,8 @@ pub fn scheduled_set<O: Order>(
     first_picked(jobs, places, list, size)
 }
 
-// Apart from `enter`: the check does not follow a list that is made over a part of a slice.
+// `insert` and `remove` stand apart from `enter` and `depart`, and are twins as these are: the check
+// does not follow a list that is made over a part of a slice.
 // One pending job more in the list in the first `used` places: how many it has then.
 fn insert<O: Order>(places: &mut [Entry<O::Mark>], used: usize, entry: Entry<O::Mark>) -> usize
     ensures after { places.new ≡ entered O.Order.urgency.before used entry places.old }

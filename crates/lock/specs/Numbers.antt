@@ -13,6 +13,12 @@ refusal_number NoSuchKind = 7
 refusal_number CountUnfit = 8
 refusal_number BufferTooShort = 19
 
+-- the number of a kind
+abbrev pub kind_number : Kind → ℕ
+kind_number Mutex = 1
+kind_number ReaderWriter = 2
+kind_number Replicas = 3
+
 -- the kind of a number
 abbrev pub kind_of : ℕ → Result Kind Refusal
 kind_of n = cond (n == 1) (Ok Mutex) (cond (n == 2) (Ok ReaderWriter) (cond (n == 3) (Ok Replicas) (Err NoSuchKind)))

@@ -1,15 +1,31 @@
 // The kinds of locks, by their numbers.
-ghost use Rattle.std.specs.Prelude.{◌≡◌};
-ghost use Rattle.lock.specs.Numbers.{kind_of};
+ghost use Rattle.std.specs.Prelude.{◌≡◌, ◌==◌};
+ghost use Rattle.lock.specs.Model.{started};
+ghost use Rattle.lock.specs.Numbers.{kind_number, kind_of};
 
 use super::Refusal;
 
 /// A kind of lock.
 #[derive(Clone, Copy, PartialEq, Eq, Debug)]
 pub enum Kind {
-    Mutex,
-    ReaderWriter,
-    Replicas,
+    Mutex = 1,
+    ReaderWriter = 2,
+    Replicas = 3,
+}
+
+impl Kind {
+    // Turns away the number of another kind, or a count that does not fit.
+    pub(crate) fn accept(self, number: u8, fit: bool) -> Result<(), Refusal>
+        ensures { result ≡ started (number == kind_number self) fit tt }
+    {
+        if number != self as u8 {
+            return Err(Refusal::NoSuchKind);
+        }
+        if !fit {
+            return Err(Refusal::CountUnfit);
+        }
+        Ok(())
+    }
 }
 
 impl TryFrom<u8> for Kind {

@@ -31,22 +31,18 @@ use task_set::TaskSet;
 #[derive(Clone, Copy, PartialEq, Eq, Debug)]
 pub enum Refusal {
     /// The kind number is not one that is known.
-    NoSuchKind,
+    NoSuchKind = 7,
     /// The count does not fit the kind.
-    CountUnfit,
+    CountUnfit = 8,
     /// The buffer is shorter than the list.
-    BufferTooShort,
+    BufferTooShort = 19,
 }
 
 impl From<Refusal> for u8 {
     ghost from_gives = { λ refusal number. number ≡ refusal_number refusal };
 
     fn from(refusal: Refusal) -> u8 {
-        match refusal {
-            Refusal::NoSuchKind => 7,
-            Refusal::CountUnfit => 8,
-            Refusal::BufferTooShort => 19,
-        }
+        refusal as u8
     }
 }
 
@@ -98,7 +94,8 @@ pub trait Lock: Copy {
     ghost model: { LockModel Model };
 
     /// An empty lock by its kind number and its count, for a number of processors.
-    // Numbers, since a caller has numbers: 7 and 8 answer those that are no kind or no fit count.
+    // Numbers, since a rule asks for 7 and 8 where they are no kind or no fit count; a struct of them
+    // would be made at each call and taken apart at once.
     fn set_up(kind: u8, count: u8, processors: u8) -> Result<Self, Refusal>
         ensures { made_of view result ≡ model.start kind count processors };
 
@@ -161,6 +158,7 @@ fn turns_of<L: Lock>(lock: &mut L, task: u8, steps: &[Step]) -> usize
     ensures turns { result ≡ turns_until L.model (L.view lock.old) task steps.now }
 {
     let mut turns = 0;
+    // By place: the steps after it are a part of the slice, and `split_first` needs a loop by hand.
     for (i, step) in steps.iter().enumerate() {
         let Some(completion) = advance(lock, *step) else {
             continue;

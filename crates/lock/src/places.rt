@@ -42,11 +42,8 @@ impl Places for OnePlace {
     ghost begins = { mutex-begins };
 
     fn set_up(kind: u8, count: u8, _processors: u8) -> Result<OnePlace, Refusal> {
-        match Kind::try_from(kind)? {
-            Kind::Mutex if count == 0 => Ok(OnePlace),
-            Kind::Mutex => Err(Refusal::CountUnfit),
-            Kind::ReaderWriter | Kind::Replicas => Err(Refusal::NoSuchKind),
-        }
+        Kind::Mutex.accept(kind, count == 0)?;
+        Ok(OnePlace)
     }
 
     fn count(self) -> u8 {
@@ -68,11 +65,8 @@ impl Places for PlacePerReplica {
     ghost begins = { replicas-begins };
 
     fn set_up(kind: u8, count: u8, processors: u8) -> Result<PlacePerReplica, Refusal> {
-        match Kind::try_from(kind)? {
-            Kind::Replicas if count < 1 || count > processors => Err(Refusal::CountUnfit),
-            Kind::Replicas => Ok(PlacePerReplica { replicas: count }),
-            Kind::Mutex | Kind::ReaderWriter => Err(Refusal::NoSuchKind),
-        }
+        Kind::Replicas.accept(kind, count >= 1 && count <= processors)?;
+        Ok(PlacePerReplica { replicas: count })
     }
 
     fn count(self) -> u8 {

@@ -152,15 +152,12 @@ impl Lock for ReaderWriter {
     ghost lawful = { rw-lawful };
 
     fn set_up(kind: u8, count: u8, _processors: u8) -> Result<ReaderWriter, Refusal> {
-        match Kind::try_from(kind)? {
-            Kind::ReaderWriter if count == 0 => Ok(ReaderWriter {
-                phase: Phase::Idle,
-                writers: Queue::new(),
-                readers: TaskSet::new(),
-            }),
-            Kind::ReaderWriter => Err(Refusal::CountUnfit),
-            Kind::Mutex | Kind::Replicas => Err(Refusal::NoSuchKind),
-        }
+        Kind::ReaderWriter.accept(kind, count == 0)?;
+        Ok(ReaderWriter {
+            phase: Phase::Idle,
+            writers: Queue::new(),
+            readers: TaskSet::new(),
+        })
     }
 
     fn fits(&self, mode: u8) -> bool {

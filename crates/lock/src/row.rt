@@ -17,10 +17,8 @@ pub(crate) fn place_in(row: &[u8], task: u8) -> Option<usize>
 pub(crate) fn set_of_first(row: &[u8]) -> TaskSet
     ensures { bits result.bits ≡ first row.now }
 {
-    match row.first() {
-        Some(task) => TaskSet::new().with(*task),
-        None => TaskSet::new(),
-    }
+    row.first()
+        .map_or(TaskSet::new(), |task| TaskSet::new().with(*task))
 }
 
 // The set of all.

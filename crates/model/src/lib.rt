@@ -15,6 +15,7 @@ pub struct Task {
     pub parameter: u32,
 }
 
+// The pair of a request stands in three variants: a struct for it would add a name and save nothing.
 /// What the job of a task is at; a request has its resource and its mode.
 #[derive(Clone, Copy, PartialEq, Eq, Debug)]
 pub enum Condition {
@@ -37,6 +38,7 @@ pub enum Event {
     Finish { task: u8 },
 }
 
+// An enum and no `()`: it prints its own word in a trace.
 /// What an accepted event answers.
 #[derive(Clone, Copy, PartialEq, Eq, Debug)]
 pub enum Answer {

@@ -157,6 +157,7 @@ fn run_under<O: Order>(
         cluster_size: header.cluster_size,
         tasks: script.tasks.as_slice(),
     };
+    // Not by `map_err` and `?`: tried, and the proof of the refused case did not close.
     if let Err(refusal) = arbiter.set_up(system) {
         let cause = Cause::from(refusal);
         let at = script.start;
@@ -181,6 +182,7 @@ fn run_from(heap: Global, script: &Script) -> Result<String, Failure<Cause>>
         cause,
         at: script.start,
     })?;
+    // An order is a type, so no closure can choose it.
     match order {
         Supplied::EarliestDeadline => run_under::<EarliestDeadline>(heap, header, script),
         Supplied::Level => run_under::<Level>(heap, header, script),
@@ -216,6 +218,7 @@ pub fn trace_file(heap: Global, file: &[u8]) -> Result<Trace, AllocError>
     ensures text { IfOk result (λ t. trace_view t ≡ traced file.now) }
     ensures promise { Promised earliest_deadline (loaded file.now) × Promised level (loaded file.now) }
 {
+    // As in `load`, but for what is done with the stop: a function for both would be no shorter.
     let mut trace = match run_file(heap, file) {
         Ok(trace) => trace,
         Err(Failure::Stopped(stop)) => Trace {

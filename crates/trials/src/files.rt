@@ -22,6 +22,7 @@ impl Draft {
         Ok(draft)
     }
 
+    // Kinds by number here: a trial spells out the bytes that a file has.
     fn add(&mut self, bytes: &[u8]) -> Result<(), AllocError> {
         self.bytes.extend_from_slice(bytes)
     }
