@@ -134,6 +134,7 @@ fn advance<L: Lock>(lock: &mut L, step: Step) -> Option<Completion>
     ensures after { L.view lock.new ≡ after L.model (L.view lock.old) step }
     ensures outcome { outcome_of result ≡ step_outcome L.model (L.view lock.old) step }
 {
+    // A step is data of a list, which laws speak of: a closure could be anything.
     match step {
         Step::Request { task, mode } => {
             let _reply = lock.request(task, mode);
