@@ -104,6 +104,7 @@ pub trait Lock: Copy {
     fn fits(&self, mode: u8) -> bool
         ensures { result ≡ model.fits (view self.now) mode };
 
+    // Two numbers: a struct of them would be made at each call and taken apart at once.
     /// A request by a task for a mode. It is declined, with no answer, where the task holds or
     /// waits already or is above 63, or the mode does not fit; then nothing changes.
     fn request(&mut self, task: u8, mode: u8) -> Option<Reply>

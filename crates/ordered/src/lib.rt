@@ -27,7 +27,8 @@ pub trait Ranking {
     ghost ranks: { Ranks key before };
 }
 
-// No `Vec`: the places are the caller's and fixed, and there is no heap.
+// A slice and a length here and in `OrderedList`, and no `Vec`: the places are the caller's and fixed,
+// and there is no heap.
 /// The entries in the first `used` of some places. Where there are fewer places than that, they
 /// are those that exist.
 #[derive(Clone, Copy)]

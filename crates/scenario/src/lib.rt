@@ -161,7 +161,8 @@ impl<'a> Reader<'a> {
         Reader { file, at: 0 }
     }
 
-    // A nested result: one could read on behind a fault, so it is no plainer as the iterator's item.
+    // A nested result: a fault leaves the reader where it is, and the iterator stands on that. The
+    // iterator's item would be no plainer.
     /// The next record, or None at the end; a fault does not move the reader.
     pub fn read_part(&mut self) -> Result<Option<Part<'a>>, Fault>
         ensures part { part_view result ≡ next_at self.old.file.now self.old.at }
