@@ -2,11 +2,11 @@
 use super::*;
 use std::test::Fail;
 
-fn refused(kind: u8, k: u8, m: u8) -> u8 {
-    match AnyLock::set_up(kind, k, m) {
-        Ok(_) => 0,
-        Err(e) => u8::from(e),
-    }
+// The number of set-up's refusal, or 0.
+fn refused(kind: u8, count: u8, processors: u8) -> u8 {
+    AnyLock::set_up(kind, count, processors)
+        .err()
+        .map_or(0, u8::from)
 }
 
 #[test]
