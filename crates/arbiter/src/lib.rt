@@ -203,6 +203,7 @@ impl<'a, 't, O: Order> Arbiter<'a, 't, O> {
         store(&mut self.counts, cluster, count);
     }
 
+    // A twin of `enter`, kept, as those of `cluster` are: a closure needs a contract as long.
     // Takes a task's job out of its cluster's list.
     fn depart(&mut self, cluster: u8, task: u8)
         ensures memory { contents self.new ≡ without_entry O.Order.urgency self.old.system (contents self.old) cluster task }

@@ -65,6 +65,7 @@ impl From<Cause> for u8 {
     }
 }
 
+// The stop stands beside the text: a file that stops still has the lines before.
 /// The trace of a scenario file; `stop` is `None` where the file ran to its end.
 #[derive(Drop)]
 pub struct Trace {

@@ -91,6 +91,7 @@ pub struct Line<'a> {
     pub number: usize,
     pub event: Event,
     pub answer: Result<Answer, Refusal>,
+    // Numbers, as an outcome of the arbiter has them.
     pub sets: &'a [u64],
 }
 

@@ -207,6 +207,7 @@ pub struct Script {
     pub events: Vec<Event>,
     /// The place of the first event, or the file's length.
     pub start: usize,
+    /// Beside the rest and no `Err`: a file that stops still has what came before.
     pub stop: Option<Stop<Fault>>,
 }
 
@@ -273,6 +274,7 @@ pub fn load(heap: Global, file: &[u8]) -> Result<Script, AllocError>
         start: file.len(),
         stop: None,
     };
+    // As in `trace_file` of `replay`, but for what is done with the stop.
     match script.fill(file) {
         Ok(()) => {}
         Err(Failure::Stopped(stop)) => script.stop = Some(stop),
@@ -286,6 +288,7 @@ mod tests {
     use super::*;
     use std::test::Fail;
 
+    // Kinds by number here: a test spells out the bytes that a file has.
     #[test]
     fn a_cut_record_stops_at_its_place(rt: HostRuntime) -> Result<(), Fail> {
         let file = [1, 2, 1, 0, 2, 0, 5, 0, 0, 0];

@@ -27,14 +27,17 @@ impl Draft {
         self.bytes.extend_from_slice(bytes)
     }
 
+    fn record(&mut self, kind: u8, subject: u8, number: u32) -> Result<(), AllocError> {
+        self.add(&[kind, subject])?;
+        self.add(&number.to_le_bytes())
+    }
+
     fn task(&mut self, cluster: u8, parameter: u32) -> Result<(), AllocError> {
-        self.add(&[2, cluster])?;
-        self.add(&parameter.to_le_bytes())
+        self.record(2, cluster, parameter)
     }
 
     fn release(&mut self, task: u8, instant: u32) -> Result<(), AllocError> {
-        self.add(&[4, task])?;
-        self.add(&instant.to_le_bytes())
+        self.record(4, task, instant)
     }
 
     fn finish(&mut self, task: u8) -> Result<(), AllocError> {
