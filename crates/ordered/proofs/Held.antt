@@ -1,15 +1,12 @@
 -- Which places are held, and what stands there: found by a key, and taken out.
-use Rattle.std.proofs.Common.{◌≡◌, ℕ, zero, suc, ◌+◌, ◌<◌, ◌≤◌, Bool, true, false, cond, not, eqb, ltb, leb, List, [], ◌∷◌, length, get_or, take, Some, None, Option, sym, refl, ap, ◌∙◌, ⊎_elim, arith, length-take}
+use Rattle.std.proofs.Common.{◌≡◌, ℕ, zero, suc, ◌+◌, ◌<◌, ◌≤◌, Bool, true, false, cond, not, eqb, ltb, leb, List, [], ◌∷◌, length, get_or, take, Some, None, Option, sym, refl, ap, ◌∙◌, arith}
 use Rattle.std.specs.Option.{is_some, option_map, unwrap_or}
 use Rattle.std.specs.List.{slice_get, remove}
 use Rattle.std.proofs.lemmas.Option.{slice_get-get_or}
-use Rattle.std.proofs.lemmas.Bool.{ltb-true, ltb-false, leb-true, lt-ltb, le-leb, eqb-false, and_from, and_parts, cases_Bool}
+use Rattle.std.proofs.lemmas.Bool.{ltb-true, ltb-false, lt-ltb, le-leb, eqb-false, and_from, and_parts}
 use Rattle.ordered.specs.Ranks.{found, Fresh, passing}
 use Rattle.ordered.specs.Places.{position, held, taken}
 use Rattle.ordered.proofs.Counts.{passing-removed}
-
-not_true_false : {b : Bool} → (b ≡ true → ⊥) → b ≡ false
-not_true_false {b} never = ⊎_elim (λ h. absurd (never h)) (λ h. h) (cases_Bool b)
 
 none_is_some : {X : Type 0} (x : X) → ◌≡◌ {A = Option X} None (Some x) → ⊥
 none_is_some x e = let z : ◌≡◌ {A = ℕ} 0 1 = cc in omega arith
@@ -17,9 +14,6 @@ none_is_some x e = let z : ◌≡◌ {A = ℕ} 0 1 = cc in omega arith
 module _ {E : Type 0} (xs : List E) (used at : ℕ) where
   pub held-yes : at < used → used ≤ length xs → held used at xs ≡ true
   held-yes a b = and_from (ltb at used) (leb used (length xs)) (lt-ltb at used a) (le-leb used (length xs) b)
-
-  pub held-no : (at < used → used ≤ length xs → ⊥) → held used at xs ≡ false
-  held-no never = not_true_false (λ h. let parts = and_parts (ltb at used) (leb used (length xs)) h in never (ltb-true at used parts.0) (leb-true used (length xs) parts.1))
 
 nth_take : {E : Type 0} (n i : ℕ) (xs : List E) → i < n → slice_get (take n xs) i ≡ slice_get xs i
 nth_take zero i xs h = absurd (omega arith)
@@ -44,11 +38,6 @@ module _ {E : Type 0} (key : E → ℕ) (k : ℕ) where
       elim (eqb (key x) k) as (λ b. eqb (key x) k ≡ b → suc (length xs) ≤ cond (not b) (1 + found key k xs) 0 → Fresh key k (x ∷ xs))
       [ true ↦ λ _ h. absurd (omega arith) | false ↦ λ e h. (eqb-false (key x) k e, found-fresh xs (omega arith)) ] refl le
 
-  pub position_some : (xs : List E) (i : ℕ) → position key k xs ≡ Some i → i ≡ found key k xs
-  position_some xs i =
-      elim (ltb (found key k xs) (length xs)) as (λ b. cond b (Some (found key k xs)) None ≡ Some i → i ≡ found key k xs)
-      [ true ↦ λ e. cc | false ↦ λ e. cc ]
-
   past_all : (xs : List E) → position key k xs ≡ None → length xs ≤ found key k xs
   past_all xs =
       elim (ltb (found key k xs) (length xs)) as (λ b. ltb (found key k xs) (length xs) ≡ b → cond b (Some (found key k xs)) None ≡ None → length xs ≤ found key k xs)
@@ -56,11 +45,6 @@ module _ {E : Type 0} (key : E → ℕ) (k : ℕ) where
 
   pub position-fresh : (xs : List E) → position key k xs ≡ None → Fresh key k xs
   position-fresh xs e = found-fresh xs (past_all xs e)
-
-  -- where no entry has the key, none is held at its place
-  pub absent-held : (xs : List E) (used : ℕ) → position key k (take used xs) ≡ None → held used (found key k (take used xs)) xs ≡ false
-  absent-held xs used e =
-      held-no xs used (found key k (take used xs)) (λ a b. let past = past_all (take used xs) e in omega (arith, length-take used xs, past))
 
 -- the element that a read of a slice answers
 pub read-is : {A B : Type 0} (f : B → A) (r : Option B) (xs : List A) (at : ℕ) (x : A) → is_some r ≡ ltb at (length xs) → option_map f r ≡ Some x → ((d : A) → unwrap_or (option_map f r) d ≡ get_or xs at d) → slice_get xs at ≡ Some x
