@@ -13,8 +13,7 @@ use Rattle.cluster.specs.Listing.{Listed, part}
 use Rattle.cluster.specs.Picks.{read}
 use Rattle.cluster.proofs.Keep.{listed_none}
 use Rattle.arbiter.specs.declared.System.{System}
-use Rattle.arbiter.specs.declared.Arbiter.{Arbiter}
-use Rattle.arbiter.specs.Memory.{said, Contents, contents, count_at, cluster_at, parameter_at, task_count, plan_of}
+use Rattle.arbiter.specs.Memory.{said, Contents, count_at, cluster_at, parameter_at, task_count, plan_of}
 use Rattle.arbiter.specs.Meaning.{Reached}
 use Rattle.arbiter.specs.SetUp.{outside, absent, unfit, idle_job, unaccepted, cleared, SetUp}
 use Rattle.arbiter.proofs.Steps.{passed}
@@ -86,20 +85,17 @@ module _ {Mark : Type 0} (order : Urgency Mark) (law : Lawful order.before) wher
       none : (k : ℕ) → 0 ≡ count_at (replicate 8 0) k
       none = all_same (λ z. z) 0 8
 
-  pub set_up_all : {O : Type 0} (y : System) (old new : Arbiter O Mark) (r : Result Unit Refusal) (o : Option Refusal) → unaccepted order (said y) (contents old) ≡ o
-      → r ≡ unless o tt → new.system ≡ kept_if o old.system y → contents new ≡ kept_if o (contents old) (cleared order (contents old)) → SetUp order y old new r
-  set_up_all y old new r None is re fi st = record {
+  pub set_up_all : (y : System) (old new : Contents Mark) (r : Result Unit Refusal) (o : Option Refusal) → unaccepted order (said y) old ≡ o
+      → r ≡ unless o tt → new ≡ kept_if o old (cleared order old) → SetUp order y old new r
+  set_up_all y old new r None is re st = record {
     replies = re ∙ ap (λ o. unless o tt) (sym is);
-    fixes = fi ∙ ap (λ o. kept_if o old.system y) (sym is);
-    stores = st ∙ ap (λ o. kept_if o (contents old) (cleared order (contents old))) (sym is);
-    reaches = subst (λ r. IfOk r (λ _. Reached order new.system (contents new) [])) (sym re)
-        (subst (λ z. Reached order z (contents new) []) (sym fi) (subst (λ m. Reached order y m []) (sym st) (starts y (contents old) is)));
-    promise = subst (λ r. IfOk r (λ _. Kept (plan_of order new.system) [])) (sym re) (kept (plan_of order new.system) law []);
+    stores = st ∙ ap (λ o. kept_if o old (cleared order old)) (sym is);
+    reaches = subst (λ r. IfOk r (λ _. Reached order y new [])) (sym re) (subst (λ m. Reached order y m []) (sym st) (starts y old is));
+    promise = subst (λ r. IfOk r (λ _. Kept (plan_of order y) [])) (sym re) (kept (plan_of order y) law []);
   }
-  set_up_all y old new r (Some f) is re fi st = record {
+  set_up_all y old new r (Some f) is re st = record {
     replies = re ∙ ap (λ o. unless o tt) (sym is);
-    fixes = fi ∙ ap (λ o. kept_if o old.system y) (sym is);
-    stores = st ∙ ap (λ o. kept_if o (contents old) (cleared order (contents old))) (sym is);
-    reaches = subst (λ r. IfOk r (λ _. Reached order new.system (contents new) [])) (sym re) tt;
-    promise = subst (λ r. IfOk r (λ _. Kept (plan_of order new.system) [])) (sym re) tt;
+    stores = st ∙ ap (λ o. kept_if o old (cleared order old)) (sym is);
+    reaches = subst (λ r. IfOk r (λ _. Reached order y new [])) (sym re) tt;
+    promise = subst (λ r. IfOk r (λ _. Kept (plan_of order y) [])) (sym re) tt;
   }

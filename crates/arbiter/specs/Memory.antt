@@ -39,10 +39,6 @@ begun jobs places = record { jobs = jobs; places = places; counts = replicate 8 
 abbrev pub SameLoans : {O Mark : Type 0} → Arbiter O Mark → Arbiter O Mark → Type 0
 SameLoans a b = (b.jobs.ghost_name ≡ a.jobs.ghost_name) × (b.places.ghost_name ≡ a.places.ghost_name)
 
--- the lent slices and the system are the same ones as before
-abbrev pub Same : {O Mark : Type 0} → Arbiter O Mark → Arbiter O Mark → Type 0
-Same a b = (b.system ≡ a.system) × SameLoans a b
-
 -- how many entries the list of cluster k has
 abbrev pub count_at : List ℕ → ℕ → ℕ
 count_at ns k = read (λ n. n) 0 (slice_get ns k)

@@ -10,8 +10,7 @@ use Rattle.model.specs.Rules.{first_of, unless, kept_if}
 use Rattle.model.specs.Promise.{Kept}
 use Rattle.cluster.specs.declared.Job.{Job}
 use Rattle.arbiter.specs.declared.System.{System}
-use Rattle.arbiter.specs.declared.Arbiter.{Arbiter}
-use Rattle.arbiter.specs.Memory.{Tables, said, Contents, contents, plan_of}
+use Rattle.arbiter.specs.Memory.{Tables, said, Contents, plan_of}
 use Rattle.arbiter.specs.Meaning.{Reached}
 
 -- n is not one of low to high
@@ -42,10 +41,9 @@ module _ {Mark : Type 0} (order : Urgency Mark) where
   abbrev pub cleared : Contents Mark → Contents Mark
   cleared m = record { jobs = replicate (length m.jobs) idle_job; places = m.places; counts = replicate 8 0 }
 
--- set-up: its answer, the system and the memory after it; where it is accepted, the memory is reached by no call yet, and the promise holds
-pub record SetUp {O Mark : Type 0} (order : Urgency Mark) (y : System) (old new : Arbiter O Mark) (r : Result Unit Refusal) : Type 0 where
-  pub replies : r ≡ unless (unaccepted order (said y) (contents old)) tt
-  pub fixes : new.system ≡ kept_if (unaccepted order (said y) (contents old)) old.system y
-  pub stores : contents new ≡ kept_if (unaccepted order (said y) (contents old)) (contents old) (cleared order (contents old))
-  pub reaches : IfOk r (λ _. Reached order new.system (contents new) [])
-  pub promise : IfOk r (λ _. Kept (plan_of order new.system) [])
+-- set-up of a system: its answer and the memory after it; where it is accepted, the memory is reached by no call yet, and the promise holds
+pub record SetUp {Mark : Type 0} (order : Urgency Mark) (y : System) (old new : Contents Mark) (r : Result Unit Refusal) : Type 0 where
+  pub replies : r ≡ unless (unaccepted order (said y) old) tt
+  pub stores : new ≡ kept_if (unaccepted order (said y) old) old (cleared order old)
+  pub reaches : IfOk r (λ _. Reached order y new [])
+  pub promise : IfOk r (λ _. Kept (plan_of order y) [])

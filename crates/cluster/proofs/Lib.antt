@@ -7,3 +7,4 @@ pub mod Whole
 pub mod Departs
 pub mod Parting
 pub mod Moves
+pub mod Loops

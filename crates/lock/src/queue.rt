@@ -45,7 +45,7 @@ impl Queue {
     pub(crate) fn contains(&self, task: u8) -> bool
         ensures { result ≡ has (row self.now) task }
     {
-        self.as_slice().contains(&task)
+        self.as_slice().iter().any(|x| *x == task)
     }
 
     // Puts a task behind the others.

@@ -1,7 +1,11 @@
 -- Tasks that may be absent, and `put`.
-use Rattle.std.proofs.Common.{◌≡◌, ℕ, eqb, Some, None, Option, sym, subst, ⊎_elim}
+use Rattle.std.proofs.Common.{◌≡◌, ℕ, eqb, ◌⊎◌, Some, None, Option, sym, refl, subst, inl, inr, ⊎_elim}
 use Rattle.std.proofs.lemmas.Bool.{cases_eq, eq-eqb, ne_eqb, cond-true, cond-false}
 use Rattle.model.specs.Rules.{put}
+
+pub cases_opt : (o : Option ℕ) → (o ≡ None) ⊎ ((d : ℕ) × (o ≡ Some d))
+cases_opt None = inl refl
+cases_opt (Some d) = inr (d, refl)
 
 pub none_some : (o : Option ℕ) (d : ℕ) → o ≡ None → o ≡ Some d → ⊥
 none_some o d p q = cc

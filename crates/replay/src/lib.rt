@@ -99,18 +99,19 @@ impl TryFrom<u8> for Supplied {
 // What the events of a system that has been set up come to.
 fn run_events<O: Order>(
     heap: Global,
-    arbiter: &mut Arbiter<'_, '_, O>,
+    arbiter: &mut Arbiter<'_, O>,
+    system: &System<'_>,
     events: &[Event],
 ) -> Result<Vec<Outcome>, AllocError>
-    requires { Reached O.Order.urgency arbiter.old.system (contents arbiter.old) [] }
-    ensures { let plan = plan_of O.Order.urgency arbiter.old.system in IfOk result (λ v. v.items ≡ outcomes plan (start plan) events.now) }
+    requires { Reached O.Order.urgency system.now (contents arbiter.old) [] }
+    ensures { let plan = plan_of O.Order.urgency system.now in IfOk result (λ v. v.items ≡ outcomes plan (start plan) events.now) }
 {
     let blank = Outcome {
         answer: Ok(Answer::Accepted),
         scheduled: [0; 8],
     };
     let mut all = vec![in heap; blank; events.len()]?;
-    arbiter.run(events, all.as_mut_slice());
+    arbiter.run(system, events, all.as_mut_slice());
     Ok(all)
 }
 
@@ -159,13 +160,13 @@ fn run_under<O: Order>(
         tasks: script.tasks.as_slice(),
     };
     // Not by `map_err` and `?`: tried, and the proof of the refused case did not close.
-    if let Err(refusal) = arbiter.set_up(system) {
+    if let Err(refusal) = arbiter.set_up(&system) {
         let cause = Cause::from(refusal);
         let at = script.start;
         return Err(Stop { cause, at }.into());
     }
     let events = script.events.as_slice();
-    let outcomes = run_events(heap, &mut arbiter, events)?;
+    let outcomes = run_events(heap, &mut arbiter, &system, events)?;
     let text = lines(heap, &system, events, outcomes.as_slice())?;
     Ok(text)
 }

@@ -40,8 +40,8 @@ fn show<T: Display + Drop>(
 }
 
 // The number of a task's condition, or the refusal.
-fn condition(arbiter: &Arbiter<'_, '_, Level>, task: u8) -> Result<u8, Refusal> {
-    arbiter.condition(task).map(u8::from)
+fn condition(arbiter: &Arbiter<'_, Level>, task: u8) -> Result<u8, Refusal> {
+    arbiter.condition(&SYSTEM, task).map(u8::from)
 }
 
 // Questions, before and after a release.
@@ -50,16 +50,16 @@ pub(super) fn questions(rt: &HostRuntime) -> anyhow::Result<()> {
     let mut places = [BLANK; 2];
     let mut arbiter = Arbiter::<Level>::new(&mut jobs, &mut places);
     println!(rt; "# questions")?;
-    ensure!(arbiter.set_up(SYSTEM).is_ok(), "refused");
-    show(rt, "scheduled on 0", arbiter.scheduled(0))?;
-    let _ = arbiter.release(0, 0);
-    let _ = arbiter.release(1, 0);
-    show(rt, "scheduled on 0", arbiter.scheduled(0))?;
-    show(rt, "scheduled on 1", arbiter.scheduled(1))?;
+    ensure!(arbiter.set_up(&SYSTEM).is_ok(), "refused");
+    show(rt, "scheduled on 0", arbiter.scheduled(&SYSTEM, 0))?;
+    let _ = arbiter.release(&SYSTEM, 0, 0);
+    let _ = arbiter.release(&SYSTEM, 1, 0);
+    show(rt, "scheduled on 0", arbiter.scheduled(&SYSTEM, 0))?;
+    show(rt, "scheduled on 1", arbiter.scheduled(&SYSTEM, 1))?;
     show(rt, "condition of 1", condition(&arbiter, 1))?;
-    let _ = arbiter.finish(1);
+    let _ = arbiter.finish(&SYSTEM, 1);
     show(rt, "condition of 1", condition(&arbiter, 1))?;
-    show(rt, "scheduled on 0", arbiter.scheduled(0))?;
+    show(rt, "scheduled on 0", arbiter.scheduled(&SYSTEM, 0))?;
     show(rt, "condition of 2", condition(&arbiter, 2))
 }
 
@@ -69,10 +69,9 @@ pub(super) fn small(rt: &HostRuntime) -> anyhow::Result<()> {
     let mut places = [BLANK; 2];
     let mut arbiter = Arbiter::<Level>::new(&mut jobs, &mut places);
     println!(rt; "# memory too small")?;
-    let set_up = arbiter.set_up(SYSTEM).map(|_| "ok");
+    let set_up = arbiter.set_up(&SYSTEM).map(|_| "ok");
     show(rt, "set-up", set_up)?;
-    arbiter.system = SYSTEM;
-    show(rt, "release", arbiter.release(9, 0))?;
-    show(rt, "scheduled on 9", arbiter.scheduled(9))?;
+    show(rt, "release", arbiter.release(&SYSTEM, 9, 0))?;
+    show(rt, "scheduled on 9", arbiter.scheduled(&SYSTEM, 9))?;
     show(rt, "condition of 9", condition(&arbiter, 9))
 }

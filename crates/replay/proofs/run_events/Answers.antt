@@ -8,4 +8,4 @@ returns g c =
     let all = c.in_ok-all.all in
     let e : length c.as_mut_slice.result.now ≡ length c.args.events.now = c.as_mut_slice.ensures.len ∙ c.in_ok-all.ensures.len in
     with_items_is all c.run.new.outcomes (c.run.auto.outcomes ∙ c.as_mut_slice.ensures.len)
-    ∙ ran_all g.O.Order.urgency c.args.arbiter.now.system c.args.events.now _ _ _ _ _ c.run.ensures.ran e c.requires
+    ∙ ran_all g.O.Order.urgency c.args.system.now c.args.events.now _ _ _ _ _ c.run.ensures.ran e c.requires

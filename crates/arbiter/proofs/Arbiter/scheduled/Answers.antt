@@ -4,10 +4,10 @@ use Rattle.arbiter.proofs.Steps.{asked-the_set}
 use Rattle.arbiter.proofs.Arbiter.scheduled.Goals as goal
 
 pub returns-then-is_too_small_for : goal.returns-then-is_too_small_for
-returns-then-is_too_small_for g c = asked-the_set g.O.Order.urgency g.met.O.Order.lawful c.args.self.now.system c.args.cluster (contents c.args.self.now) _ (search rules)
+returns-then-is_too_small_for g c = asked-the_set g.O.Order.urgency g.met.O.Order.lawful c.args.system.now c.args.cluster (contents c.args.self.now) _ (search rules)
 
-pub returns-then-cluster-self : goal.returns-then-cluster-self
-returns-then-cluster-self g c = asked-the_set g.O.Order.urgency g.met.O.Order.lawful c.args.self.now.system c.args.cluster (contents c.args.self.now) _ (search rules)
+pub returns-then-cluster-system : goal.returns-then-cluster-system
+returns-then-cluster-system g c = asked-the_set g.O.Order.urgency g.met.O.Order.lawful c.args.system.now c.args.cluster (contents c.args.self.now) _ (search rules)
 
 pub returns : goal.returns
-returns g c = asked-the_set g.O.Order.urgency g.met.O.Order.lawful c.args.self.now.system c.args.cluster (contents c.args.self.now) _ (search rules)
+returns g c = asked-the_set g.O.Order.urgency g.met.O.Order.lawful c.args.system.now c.args.cluster (contents c.args.self.now) _ (search rules)

@@ -6,12 +6,12 @@ use Rattle.arbiter.proofs.Arbiter.set_up.Goals as goal
 
 pub returns-in_err-accept-clause-result : goal.returns-in_err-accept-clause-result
 returns-in_err-accept-clause-result g c =
-    let order = g.O.Order.urgency in let f = c.in_err-accept.field-0.0 in
-    let e : unaccepted order (said c.args.system) (contents c.args.self.now) ≡ Some f = refused-for _ f (sym c.in_err-accept.was ∙ c.accept.ensures) in
-    set_up_all order g.met.O.Order.lawful c.args.system c.args.self.now c.args.self.now c.from_residual.result (Some f) e (search rules) refl refl
+    let order = g.O.Order.urgency in let f = c.in_err-accept.field-0.0 in let m = contents c.args.self.now in
+    let e : unaccepted order (said c.args.system.now) m ≡ Some f = refused-for _ f (sym c.in_err-accept.was ∙ c.accept.ensures) in
+    set_up_all order g.met.O.Order.lawful c.args.system.now m m c.from_residual.result (Some f) e (search rules) refl
 
 pub returns-clause-result : goal.returns-clause-result
 returns-clause-result g c =
-    let order = g.O.Order.urgency in
-    let e : unaccepted order (said c.args.system) (contents c.args.self.now) ≡ None = accepted-for _ (search rules) in
-    set_up_all order g.met.O.Order.lawful c.args.system c.args.self.now _ (Ok tt) None e refl refl (search rules)
+    let order = g.O.Order.urgency in let m = contents c.args.self.now in
+    let e : unaccepted order (said c.args.system.now) m ≡ None = accepted-for _ (search rules) in
+    set_up_all order g.met.O.Order.lawful c.args.system.now m _ (Ok tt) None e refl (search rules)

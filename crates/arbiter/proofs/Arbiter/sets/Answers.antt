@@ -8,7 +8,7 @@ use Rattle.arbiter.proofs.Arbiter.sets.Goals as goal
 
 pub returns : goal.returns
 returns g c =
-    let all = sets g.O.Order.urgency c.args.self.now.system (contents c.args.self.now) in
+    let all = sets g.O.Order.urgency c.args.system.now (contents c.args.self.now) in
     ext_get_or 0 c.map.result all c.map.ensures.items.long (λ i l.
     let lt : i < 8 = omega (arith, c.map.ensures.items.long, l) in
     by_eight (λ k. get_or c.map.result k 0 ≡ get_or all k 0)
